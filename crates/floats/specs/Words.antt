@@ -5,11 +5,11 @@ use mathlib.Core.List.{List}
 use lib.ListN.{getD}
 use lib.Ieee.{Float, nan, binary64, add, sub, mul, div, neg, ofBits}
 
-infixl 6 _⊕_
-infixl 6 _⊖_
-infixl 7 _⊗_
-infixl 7 _⊘_
-infixl 9 _‼_
+infixl 75 _⊕_
+infixl 75 _⊖_
+infixl 77 _⊗_
+infixl 77 _⊘_
+infixl 90 _‼_
 -- x + y, x - y, x * y and x / y, each rounded once
 abbrev pub _⊕_ : Float → Float → Float
 x ⊕ y = add binary64 x y
