@@ -8,14 +8,14 @@ use lib.IntN.{ℤ, pos, negsuc}
 use lib.Dec.{T, ltb, leb, eqb, ltb→lt, nltb→le, eqb→eq, eqb-refl, lit<}
 use lib.Arith.{le→nltb}
 use lib.Pow.{pow-pos}
-use lib.Ieee.{Float, nan, inf, fin, binary64, up, down, neg, sub, add, sum, round, lt, eq, ne, isNan, fits, ofBits, toBits, ofFields, odd, top, hid, ones}
+use lib.Ieee.{Float, nan, inf, fin, binary64, up, down, below, level, neg, sub, add, sum, round, lt, eq, ne, isNan, fits, ofBits, toBits, ofFields, odd, top, hid, ones}
 use lib.Ieee.Fits.{up-pos, down-pos}
 use lib.Ieee.Bits.{ofBits-toBits, is-true, is-false}
 use lib.Ieee.Compare.{differs-from-itself}
 use lib.Ieee.Exact.{HasValue, round-exact}
 use lib.Ieee.Scale.{finite}
 use Rattle.floats.specs.Words.{plusZero, _⊖_}
-use Rattle.floats.specs.Signs.{minus, absOf}
+use Rattle.floats.specs.Signs.{minus, absOf, before}
 
 -- ---- a comparison with zero
 
@@ -164,3 +164,93 @@ unfolding ofBits
 sign-bit nan f = unfold toBits minus in refl
 sign-bit (inf s) f = sign-of (inf s) f (unfold isNan in tt)
 sign-bit (fin s m e) f = sign-of (fin s m e) f (unfold isNan in tt)
+
+-- ---- the total order
+
+less : (a b : ℕ) → ltb a b ≡ true → a < b
+less a b h = ltb→lt a b (subst T (sym h) tt)
+
+no-less : (a b : ℕ) → a ≤ b → ltb b a ≡ false
+no-less a b h = is-false (ltb b a) (le→nltb b a h)
+
+unequal : (a b : ℕ) → (a ≡ b → ⊥) → eqb a b ≡ false
+unequal a b h = go (eqb a b) (eqb→eq a b)
+  where
+    go : (x : Bool) → (T x → a ≡ b) → x ≡ false
+    go true f = absurd (h (f tt))
+    go false f = refl
+
+-- of ±a below ±b and ±a level with ±b, each shuts the ways back out
+below-one-way : (s t : Bool) (a b : ℕ) → below s a t b ≡ true → below t b s a ≡ false
+below-one-way false false a b h = let l = less a b h in no-less a b (omega arith)
+below-one-way false true a b h = absurd (true≢false (sym h))
+below-one-way true false a b h = refl
+below-one-way true true a b h = let l = less b a h in no-less b a (omega arith)
+
+below-not-level : (s t : Bool) (a b : ℕ) → below s a t b ≡ true → level t b s a ≡ false
+below-not-level false false a b h = let l = less a b h in rw (unequal b a (λ e. omega arith))
+below-not-level false true a b h = absurd (true≢false (sym h))
+below-not-level true false a b h = go (eqb b a) (eqb b 0) (eqb→eq b a) (eqb→eq b 0) (less 0 (a + b) h)
+  where
+    go : (x y : Bool) → (T x → b ≡ a) → (T y → b ≡ 0) → 0 < a + b → x && (false || y) ≡ false
+    go true true p q l = let u = p tt in let v = q tt in absurd (lt-irrefl 0 (omega arith))
+    go true false p q l = refl
+    go false y p q l = refl
+below-not-level true true a b h = let l = less b a h in rw (unequal b a (λ e. omega arith))
+
+second : (x y : Bool) → x && (false || y) ≡ true → T y
+second true true h = tt
+second true false h = absurd (true≢false (sym h))
+second false y h = absurd (true≢false (sym h))
+
+level-not-below : (s t : Bool) (a b : ℕ) → level s a t b ≡ true → below t b s a ≡ false
+level-not-below s t a b h = go s t (eqb→eq a b (both-true (eqb a b) (Bool·beq s t || eqb a 0) h)) h
+  where
+    go : (s t : Bool) → a ≡ b → level s a t b ≡ true → below t b s a ≡ false
+    go false false e k = no-less a b (omega arith)
+    go true true e k = no-less b a (omega arith)
+    go false true e k = let z = eqb→eq a 0 (second (eqb a b) (eqb a 0) k) in no-less (b + a) 0 (omega arith)
+    go true false e k = refl
+
+lt-one-way : (x y : Float) → lt x y ≡ true → (lt y x ≡ false) × (eq y x ≡ false)
+unfolding lt eq
+lt-one-way nan y h = absurd (true≢false (sym h))
+lt-one-way (inf s) nan h = absurd (true≢false (sym h))
+lt-one-way (inf true) (inf true) h = absurd (true≢false (sym h))
+lt-one-way (inf true) (inf false) h = (refl, refl)
+lt-one-way (inf false) (inf t) h = absurd (true≢false (sym h))
+lt-one-way (inf true) (fin t n d) h = (refl, refl)
+lt-one-way (inf false) (fin t n d) h = absurd (true≢false (sym h))
+lt-one-way (fin s m e) nan h = absurd (true≢false (sym h))
+lt-one-way (fin s m e) (inf true) h = absurd (true≢false (sym h))
+lt-one-way (fin s m e) (inf false) h = (refl, refl)
+lt-one-way (fin s m e) (fin t n d) h =
+    (below-one-way s t (m * up e * down d) (n * up d * down e) h, below-not-level s t (m * up e * down d) (n * up d * down e) h)
+
+eq-not-lt : (x y : Float) → eq x y ≡ true → lt y x ≡ false
+unfolding lt eq
+eq-not-lt nan y h = absurd (true≢false (sym h))
+eq-not-lt (inf s) nan h = absurd (true≢false (sym h))
+eq-not-lt (inf true) (inf true) h = refl
+eq-not-lt (inf true) (inf false) h = absurd (true≢false (sym h))
+eq-not-lt (inf false) (inf true) h = absurd (true≢false (sym h))
+eq-not-lt (inf false) (inf false) h = refl
+eq-not-lt (inf s) (fin t n d) h = absurd (true≢false (sym h))
+eq-not-lt (fin s m e) nan h = absurd (true≢false (sym h))
+eq-not-lt (fin s m e) (inf t) h = absurd (true≢false (sym h))
+eq-not-lt (fin s m e) (fin t n d) h = level-not-below s t (m * up e * down d) (n * up d * down e) h
+
+-- no two numbers come before each other
+pub before-one-way : (x y : Float) → before x y ≡ true → before y x ≡ false
+before-one-way x y h = go (lt x y) (eq x y) (minus x) (minus y) (lt-one-way x y) (eq-not-lt x y) h
+  where
+    go : (l e s t : Bool) → (l ≡ true → (lt y x ≡ false) × (eq y x ≡ false)) → (e ≡ true → lt y x ≡ false) → l || (e && (s && not t)) ≡ true → lt y x || (eq y x && (t && not s)) ≡ false
+    go true e s t p q h = rw (p refl .0, p refl .1)
+    go false true true false p q h = rw (q refl) (ends (eq y x))
+      where
+        ends : (b : Bool) → b && false ≡ false
+        ends true = refl
+        ends false = refl
+    go false true true true p q h = absurd (true≢false (sym h))
+    go false true false t p q h = absurd (true≢false (sym h))
+    go false false s t p q h = absurd (true≢false (sym h))
