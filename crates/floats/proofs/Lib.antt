@@ -4,3 +4,4 @@ pub mod ByteLaws
 pub mod TurnLaws
 pub mod ListLaws
 pub mod TableLaws
+pub mod TotalOrder
