@@ -85,7 +85,7 @@ module _ (d g q : ℕ) (from : 2 ^ 52 ≤ d) (below : d < 2 ^ 54) (r : IsRoot (d
       }
 
 -- ---- the whole way from m * 2 ^ s
-pub joined : (m s q : ℕ) → 2 ^ 52 ≤ m → m < 2 ^ 53 → 1022 ≤ s → s ≤ 3119 → IsRoot (m * (1 + s % 2) * 2 ^ 54) q → RootBits (m * 2 ^ s) ((s / 2 - 26) * 2 ^ 52 + (q + 1) / 2)
+pub joined : (m s q : ℕ) → 2 ^ 52 ≤ m → m < 2 ^ 53 → 54 ≤ s → s ≤ 3119 → IsRoot (m * (1 + s % 2) * 2 ^ 54) q → RootBits (m * 2 ^ s) ((s / 2 - 26) * 2 ^ 52 + (q + 1) / 2)
 joined m s q a b c e r =
     let k : s / 2 - 26 ≡ suc (s / 2 - 27) = omega arith in
-    rw (parts m s (omega arith), k) (assembled (m * (1 + s % 2)) (s / 2 - 27) q (omega (arith, wide m s)) (omega (arith, wide m s)) r (omega arith))
+    rw (parts m s c, k) (assembled (m * (1 + s % 2)) (s / 2 - 27) q (omega (arith, wide m s)) (omega (arith, wide m s)) r (omega arith))

@@ -13,8 +13,9 @@ use lib.Ieee.Fits.{up-pos, down-pos}
 use lib.Ieee.Bits.{ofBits-toBits}
 use lib.Ieee.Exact.{HasValue}
 use Rattle.floats.specs.Words.{plusZero}
+use Rattle.floats.specs.Signs.{minus}
 use Rattle.roots.specs.Root.{sqrtOf, rootOf}
-use Rattle.roots.proofs.Ladder.{top, unitsOf, rising, plain-below, pattern-value}
+use Rattle.roots.proofs.Ladder.{top, unitsOf, rising, below-top, pattern-value}
 
 pub negative : (x : Float) → lt x plusZero ≡ true → div binary64 plusZero plusZero ≡ sqrtOf x
 unfolding lt div ofBits sqrtOf
@@ -43,12 +44,12 @@ level (fin false (suc m) e) h k = absurd (omega (arith, ltb-false, up-pos e))
 
 -- ---- above zero: infinity, or a finite value by its pattern
 pub infinite : (x : Float) → T (fits binary64 x) → lt plusZero x ≡ true → toBits binary64 x / 2 ^ 52 ≡ 2047 → x ≡ sqrtOf x
-unfolding lt ofBits sqrtOf
+unfolding lt ofBits sqrtOf minus
 infinite nan F h e = refl
 infinite (inf true) F h e = absurd (false≢true h)
 infinite (inf false) F h e = refl
 infinite (fin true m d) F h e = absurd (false≢true h)
-infinite (fin false m d) F h e = absurd (omega (arith, plain-below (fin false m d) F tt))
+infinite (fin false m d) F h e = absurd (omega (arith, below-top (fin false m d) F tt refl))
 
 pub sqrt-units : (x : Float) (a : ℕ) → 0 < a → HasValue x false a (2 ^ 1074) → sqrtOf x ≡ rootOf (a * 2 ^ 1074)
 unfolding sqrtOf
@@ -67,12 +68,12 @@ pub record Positive (x : Float) (b : ℕ) : Type 0 where
   pub root : sqrtOf x ≡ rootOf (unitsOf b * 2 ^ 1074)
 
 bounded : (x : Float) → T (fits binary64 x) → lt plusZero x ≡ true → (toBits binary64 x / 2 ^ 52 ≡ 2047 → ⊥) → toBits binary64 x < top
-unfolding lt ofBits toBits
+unfolding lt ofBits toBits minus
 bounded nan F h n = absurd (false≢true h)
 bounded (inf true) F h n = absurd (false≢true h)
 bounded (inf false) F h n = absurd (n refl)
 bounded (fin true m d) F h n = absurd (false≢true h)
-bounded (fin false m d) F h n = plain-below (fin false m d) F tt
+bounded (fin false m d) F h n = below-top (fin false m d) F tt refl
 
 some : (b : ℕ) → lt plusZero (ofBits binary64 b) ≡ true → 0 < b
 unfolding lt ofBits

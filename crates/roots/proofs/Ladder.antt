@@ -13,7 +13,10 @@ use lib.Pow.{pow-pos}
 use lib.Ieee.{Float, nan, inf, fin, binary64, down, odd, units, fits, nanBits, ofFields, ofBits, toBits}
 use lib.Ieee.Fits.{down-pos, odd-fits, cond-fits, inf-fits}
 use lib.Ieee.Bits.{ofBits-toBits, toBits-ofBits, toBits-lt, ofBits-fits, nanBits-is, nanBits-above}
+use lib.Ieee.Scale.{finite}
 use lib.Ieee.Exact.{HasValue, units-val, odd-sign}
+use Rattle.floats.specs.Signs.{minus}
+use Rattle.floats.proofs.SignLaws.{sign-bit}
 use Rattle.roots.specs.Nearest.{Holds}
 
 -- ---- numbers
@@ -95,38 +98,27 @@ pub pattern-value : (b : ℕ) → b < top → HasValue (ofBits binary64 b) false
 pattern-value b u = rw (read b (b / 2 ^ 52) u refl) (odd-sign 53 false (b - dropped b * 2 ^ 52) (dropped b) 1074)
 
 -- ---- and which patterns are such values'
-abbrev pub plain : Float → Bool
-plain nan = false
-plain (inf s) = false
-plain (fin s m e) = not s
-
-value-plain : (v : Float) (a c : ℕ) → HasValue v false a c → T (plain v)
-value-plain nan a c h = h
-value-plain (inf s) a c h = h
-value-plain (fin true m e) a c h = absurd (true≢false (h .0))
-value-plain (fin false m e) a c h = tt
-
-odd-plain : (d : ℕ) (s : Bool) (q k l : ℕ) → T (plain (odd d s q k l)) → s ≡ false
-unfolding odd
-odd-plain d false q k l h = refl
-odd-plain d true zero k l h = absurd h
-odd-plain d true (suc q) k l h = absurd h
-
-fields-plain : (s : Bool) (x t : ℕ) → T (plain (ofFields binary64 s x t)) → (s ≡ false) × (x ≡ 2047 → ⊥)
+fields-finite : (s : Bool) (x t : ℕ) → T (finite (ofFields binary64 s x t)) → x ≡ 2047 → ⊥
 unfolding ofFields
-fields-plain s zero t h = (odd-plain 53 s t 0 1074 h, λ e. omega arith)
-fields-plain s (suc x) t h = go (eqb (suc x) 2047) refl (eqb t 0) h
+fields-finite s zero t h = omega arith
+fields-finite s (suc x) t h = go (eqb (suc x) 2047) refl (eqb t 0) h
   where
-    go : (a : Bool) → eqb (suc x) 2047 ≡ a → (b : Bool) → T (plain (cond a (cond b (inf s) nan) (odd 53 s (2 ^ 52 + t) x 1074))) → (s ≡ false) × (suc x ≡ 2047 → ⊥)
+    go : (a : Bool) → eqb (suc x) 2047 ≡ a → (b : Bool) → T (finite (cond a (cond b (inf s) nan) (odd 53 s (2 ^ 52 + t) x 1074))) → suc x ≡ 2047 → ⊥
     go true e true h = absurd h
     go true e false h = absurd h
-    go false e b h = (odd-plain 53 s (2 ^ 52 + t) x 1074 h, eqb-false (suc x) 2047 e)
+    go false e b h = eqb-false (suc x) 2047 e
 
-plain-pattern : (b : ℕ) → b < 2 ^ 64 → T (plain (ofBits binary64 b)) → b < top
-plain-pattern b w h = let f = fields-plain (leb (2 ^ 63) b) (b % 2 ^ 63 / 2 ^ 52) (b % 2 ^ 52) (rw (ofBits-is b) at h) in omega (arith, leb-false (2 ^ 63) b (f .0), f .1)
+pub below-top : (x : Float) → T (fits binary64 x) → T (finite x) → minus x ≡ false → toBits binary64 x < top
+below-top x F h m =
+    let b = toBits binary64 x in
+    let f = fields-finite (leb (2 ^ 63) b) (b % 2 ^ 63 / 2 ^ 52) (b % 2 ^ 52) (rw (← ofBits-is b, ofBits-toBits binary64 x F) h) in
+    omega (arith, leb-false (2 ^ 63) b (sign-bit x F ∙ m))
 
-pub plain-below : (x : Float) → T (fits binary64 x) → T (plain x) → toBits binary64 x < top
-plain-below x F h = plain-pattern (toBits binary64 x) (toBits-lt binary64 x F) (rw (ofBits-toBits binary64 x F) h)
+pub signs : (v : Float) (a c : ℕ) → HasValue v false a c → T (finite v) × (minus v ≡ false)
+unfolding minus
+signs nan a c h = absurd h
+signs (inf s) a c h = absurd h
+signs (fin s m e) a c h = (tt, h .0)
 
 own-units : (v : Float) (a b : ℕ) → HasValue v false a (2 ^ 1074) → HasValue v false b (2 ^ 1074) → a ≡ b
 own-units nan a b h k = absurd h
@@ -142,7 +134,8 @@ pub record Rung (y : Float) (Y b : ℕ) : Type 0 where
 pub rung : (y : Float) (Y : ℕ) → Holds y Y → Rung y Y (toBits binary64 y)
 rung y Y h =
     let e : ofBits binary64 (toBits binary64 y) ≡ y = ofBits-toBits binary64 y (h .0) in
-    let u = plain-below y (h .0) (value-plain y Y (2 ^ 1074) (h .1)) in
+    let v = signs y Y (2 ^ 1074) (h .1) in
+    let u = below-top y (h .0) (v .0) (v .1) in
     record { below = u; value = sym e; units = own-units y Y (unitsOf (toBits binary64 y)) (h .1) (subst (λ (v : Float). HasValue v false (unitsOf (toBits binary64 y)) (2 ^ 1074)) e (pattern-value (toBits binary64 y) u)) }
 
 pub holds : (b : ℕ) → b < top → Holds (ofBits binary64 b) (unitsOf b)

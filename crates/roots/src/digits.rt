@@ -28,7 +28,7 @@ pub fn root(m: u64) -> u64
 // more than an f64 holds: the last one says which way to round, since no root lies in the middle
 // of two.
 pub fn root_bits(m: u64, s: u64) -> u64
-    requires { ⌜ (2 ^ 52 ≤ m) × (m < 2 ^ 53) × (1022 ≤ s) × (s ≤ 3119) ⌝ }
+    requires { ⌜ (2 ^ 52 ≤ m) × (m < 2 ^ 53) × (54 ≤ s) × (s ≤ 3119) ⌝ }
     ensures { λ r. ⌜ RootBits (m * 2 ^ s) r ⌝ }
 {
     let q = root(m * (1 + s % 2));

@@ -34,7 +34,7 @@ loop-again : tie.Need-loop-again Inv-loop μ-loop
 loop-again c =
     let l = c .before .before .loop in
     let u = l .unit / 2 in
-    let h = half (l .inv .0) (l .unit) (l .inv .1) (c .before .loop-test .taken) in
+    let h = half (l .inv .0) (l .unit) (l .inv .1) (omega arith) in
     (h .0, h .1, omega (arith, h .2), one (c .before .before .before .args .m * 2 ^ 54) (l .q) (l .left) u (rw (← h .2) (l .inv .3)) (c .if1 .taken))
 
 loop-less-2 : tie.Need-loop-less-2 Inv-loop μ-loop
@@ -44,13 +44,13 @@ loop-again-2 : tie.Need-loop-again-2 Inv-loop μ-loop
 loop-again-2 c =
     let l = c .before .before .loop in
     let u = l .unit / 2 in
-    let h = half (l .inv .0) (l .unit) (l .inv .1) (c .before .loop-test .taken) in
+    let h = half (l .inv .0) (l .unit) (l .inv .1) (omega arith) in
     (h .0, h .1, omega (arith, h .2), nought (c .before .before .before .args .m * 2 ^ 54) (l .q) (l .left) u (rw (← h .2) (l .inv .3)) (c .if1 .left))
 
 returns : tie.Need-returns Inv-loop μ-loop
 returns c =
     let l = c .before .loop in
-    end (c .before .before .args .m * 2 ^ 54) (l .q) (l .left) (rw (last (l .inv .0) (l .unit) (l .inv .1) (c .loop-test .left)) at (l .inv .3))
+    end (c .before .before .args .m * 2 ^ 54) (l .q) (l .left) (rw (last (l .inv .0) (l .unit) (l .inv .1) (omega arith)) at (l .inv .3))
 
 pub root-spec : {M : Type 1} → statement M
 root-spec = tie.close (tie.spec Inv-loop μ-loop loop-holds mul-left mul-step add-step add-q loop-less loop-again loop-less-2 loop-again-2 returns)
