@@ -1,5 +1,5 @@
 -- `sqrtOf` at each kind of f64 that `sqrt` tells apart. Assumes nothing.
-use mathlib.Core.Path.{_≡_, refl, sym, ap, _∙_, subst}
+use mathlib.Core.Path.{_≡_, refl, sym, ap, _∙_}
 use Prim.Native.Nat.{ℕ, zero, suc, _+_, _-_, _*_, _/_, _%_, _^_, _≤_, _<_}
 use native.Mathlib.Nat.{zero-lt-suc, lt-of-le-of-lt, lt-of-not-le, not-le-of-lt, mod-eq-of-lt, mul-assoc, mul-le-mul-right, mul-lt-mul-of-pos-right, pow-succ', mul-pos, mul-div-cancel}
 use native.Mathlib.Omega.{arith}
@@ -15,7 +15,7 @@ use lib.Ieee.Exact.{HasValue}
 use Rattle.floats.specs.Words.{plusZero}
 use Rattle.floats.specs.Signs.{minus}
 use Rattle.roots.specs.Root.{sqrtOf, rootOf}
-use Rattle.roots.proofs.Ladder.{top, unitsOf, rising, below-top, pattern-value}
+use Rattle.roots.proofs.Ladder.{top, unitsOf, rising, below-top, own-value}
 
 pub negative : (x : Float) → lt x plusZero ≡ true → div binary64 plusZero plusZero ≡ sqrtOf x
 unfolding lt div ofBits sqrtOf
@@ -85,7 +85,7 @@ positive x F h n =
     let b = toBits binary64 x in
     let u = bounded x F h n in
     let s : 0 < b = some b (rw (ofBits-toBits binary64 x F) h) in
-    record { some = s; below = u; root = sqrt-units x (unitsOf b) (rising 0 b s) (subst (λ (v : Float). HasValue v false (unitsOf b) (2 ^ 1074)) (ofBits-toBits binary64 x F) (pattern-value b u)) }
+    record { some = s; below = u; root = sqrt-units x (unitsOf b) (rising 0 b s) (own-value x F u) }
 
 -- ---- its units with 53 digits, the leading one as the field has it, or shifted up to where a field would have it
 pub normal : (b : ℕ) → (b / 2 ^ 52 ≡ 0 → ⊥) → (2 ^ 52 + b % 2 ^ 52) * 2 ^ (b / 2 ^ 52 + 1073) ≡ unitsOf b * 2 ^ 1074

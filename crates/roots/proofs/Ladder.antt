@@ -5,14 +5,14 @@ use mathlib.Core.Logic.{_⊎_, inl, inr}
 use Prim.Native.Nat.{ℕ, zero, suc, _+_, _-_, _*_, _/_, _%_, _^_, _≤_, _<_}
 use native.Mathlib.Nat.{eq-or-lt-of-le, le-of-suc-le-suc, lt-trans, pow-succ', eq-of-mul-eq-mul-right}
 use native.Mathlib.Omega.{arith}
-use mathlib.Core.Bool.{Bool, true, false, not, cond, true≢false}
+use mathlib.Core.Bool.{Bool, true, false, not, cond}
 use lib.Dec.{T, leb, ltb, eqb, ltb→lt, nltb→le}
 use borrow.Author.Tests.{lt-leb, leb-false, ne-eqb, eqb-false}
 use lib.Arith.{le→nltb}
 use lib.Pow.{pow-pos}
 use lib.Ieee.{Float, nan, inf, fin, binary64, down, odd, units, fits, nanBits, ofFields, ofBits, toBits}
 use lib.Ieee.Fits.{down-pos, odd-fits, cond-fits, inf-fits}
-use lib.Ieee.Bits.{ofBits-toBits, toBits-ofBits, toBits-lt, ofBits-fits, nanBits-is, nanBits-above}
+use lib.Ieee.Bits.{ofBits-toBits, toBits-ofBits, ofBits-fits, nanBits-is, nanBits-above}
 use lib.Ieee.Scale.{finite}
 use lib.Ieee.Exact.{HasValue, units-val, odd-sign}
 use Rattle.floats.specs.Signs.{minus}
@@ -94,7 +94,7 @@ read b (suc x) u e =
     let q : b - x * 2 ^ 52 ≡ 2 ^ 52 + b % 2 ^ 52 = omega arith in
     sign-clear b u ∙ rw (e, k, q, ne-eqb (suc x) 2047 (omega arith))
 
-pub pattern-value : (b : ℕ) → b < top → HasValue (ofBits binary64 b) false (unitsOf b) (2 ^ 1074)
+pattern-value : (b : ℕ) → b < top → HasValue (ofBits binary64 b) false (unitsOf b) (2 ^ 1074)
 pattern-value b u = rw (read b (b / 2 ^ 52) u refl) (odd-sign 53 false (b - dropped b * 2 ^ 52) (dropped b) 1074)
 
 -- ---- and which patterns are such values'
@@ -120,6 +120,10 @@ signs nan a c h = absurd h
 signs (inf s) a c h = absurd h
 signs (fin s m e) a c h = (tt, h .0)
 
+-- a value below infinity's pattern, in units; and it has no other number of them
+pub own-value : (x : Float) → T (fits binary64 x) → toBits binary64 x < top → HasValue x false (unitsOf (toBits binary64 x)) (2 ^ 1074)
+own-value x F u = subst (λ (v : Float). HasValue v false (unitsOf (toBits binary64 x)) (2 ^ 1074)) (ofBits-toBits binary64 x F) (pattern-value (toBits binary64 x) u)
+
 own-units : (v : Float) (a b : ℕ) → HasValue v false a (2 ^ 1074) → HasValue v false b (2 ^ 1074) → a ≡ b
 own-units nan a b h k = absurd h
 own-units (inf t) a b h k = absurd h
@@ -133,10 +137,9 @@ pub record Rung (y : Float) (Y b : ℕ) : Type 0 where
 
 pub rung : (y : Float) (Y : ℕ) → Holds y Y → Rung y Y (toBits binary64 y)
 rung y Y h =
-    let e : ofBits binary64 (toBits binary64 y) ≡ y = ofBits-toBits binary64 y (h .0) in
     let v = signs y Y (2 ^ 1074) (h .1) in
     let u = below-top y (h .0) (v .0) (v .1) in
-    record { below = u; value = sym e; units = own-units y Y (unitsOf (toBits binary64 y)) (h .1) (subst (λ (v : Float). HasValue v false (unitsOf (toBits binary64 y)) (2 ^ 1074)) e (pattern-value (toBits binary64 y) u)) }
+    record { below = u; value = sym (ofBits-toBits binary64 y (h .0)); units = own-units y Y (unitsOf (toBits binary64 y)) (h .1) (own-value y (h .0) u) }
 
 pub holds : (b : ℕ) → b < top → Holds (ofBits binary64 b) (unitsOf b)
 holds b u = (ofBits-fits binary64 b, pattern-value b u)

@@ -5,3 +5,4 @@ pub mod Assemble
 pub mod Cases
 pub mod Nearest
 pub mod Examples
+pub mod Laws

@@ -72,7 +72,7 @@ shed w q k l h lo hi =
 abbrev pub middle : ℕ → ℕ
 middle b = unitsOf b + unitsOf (suc b)
 
-rootOf-is : (n : ℕ) → let w = isqrt n in let k = size w - 53 in let mid = (2 * (w / 2 ^ k) + 1) * 2 ^ k in rootOf n ≡ units binary64 false (nearest (w / 2 ^ k) (compare (4 * n) (mid * mid))) k
+pub rootOf-is : (n : ℕ) → let w = isqrt n in let k = size w - 53 in let mid = (2 * (w / 2 ^ k) + 1) * 2 ^ k in rootOf n ≡ units binary64 false (nearest (w / 2 ^ k) (compare (4 * n) (mid * mid))) k
 unfolding rootOf
 rootOf-is n = refl
 

@@ -1,8 +1,9 @@
-// The square root, correctly rounded. It is total.
+// The square root, correctly rounded, and hypot. Both are total.
 mod digits;
 
 ghost use mathlib.Core.Path.{_≡_};
 ghost use Rattle.roots.specs.Root.{sqrtOf};
+ghost use Rattle.roots.specs.Hypot.{infinite, scaledHypot, hypotOf};
 
 // IEEE 754's squareRoot: the value nearest to the root, a tie to the even one. The root of -0 is -0.
 pub fn sqrt(x: f64) -> f64
@@ -25,4 +26,39 @@ pub fn sqrt(x: f64) -> f64
         return f64::from_bits(digits::root_bits(4503599627370496 + t, field + 1073));
     }
     x
+}
+
+// √(x² + y²), with no overflow or underflow on the way where the value is in range. The constants
+// are 2^-900, 2^600 and 2^-600.
+pub fn hypot(x: f64, y: f64) -> f64
+    ensures { λ r. ⌜ r ≡ hypotOf x y ⌝ }
+{
+    let s = x * x + y * y;
+    if s < 1.1830521861667747e-271 {
+        return scaled_hypot(4.149515568880993e180, 2.409919865102884e-181, x, y);
+    }
+    if s < 1.0 / 0.0 {
+        return sqrt(s);
+    }
+    if is_infinite(x) {
+        return 1.0 / 0.0;
+    }
+    if is_infinite(y) {
+        return 1.0 / 0.0;
+    }
+    scaled_hypot(2.409919865102884e-181, 4.149515568880993e180, x, y)
+}
+
+fn is_infinite(x: f64) -> bool
+    ensures { λ r. ⌜ r ≡ infinite x ⌝ }
+{
+    x == 1.0 / 0.0 || x == -1.0 / 0.0
+}
+
+fn scaled_hypot(c: f64, d: f64, x: f64, y: f64) -> f64
+    ensures { λ r. ⌜ r ≡ scaledHypot c d x y ⌝ }
+{
+    let u = c * x;
+    let v = c * y;
+    sqrt(u * u + v * v) * d
 }
