@@ -28,4 +28,6 @@ unfolding div neg ofBits
 returns-2 c = minus (c .before .args .x) (c .if1 .left)
 
 pub is-infinite-spec : {M : Type 1} → statement M
-is-infinite-spec = tie.close (tie.spec returns returns-2)
+is-infinite-spec =
+    tie.close
+    (tie.spec returns returns-2)

@@ -16,12 +16,6 @@ use Rattle.roots.proofs.sqrt.Tie as tie
 held : (c : tie.Start) → T (fits binary64 (c .args .x))
 held c = subst T (sym (c .good .0 .1)) tt
 
-returns : tie.Need-returns
-returns c = negative (c .before .args .x) (c .if1 .taken)
-
-float-to-bits-b : tie.Need-float-to-bits-b
-float-to-bits-b c = number (c .before .before .args .x) (c .if2 .taken)
-
 returns-2 : tie.Need-returns-2
 returns-2 c = infinite (c .before .before .before .args .x) (held (c .before .before .before)) (c .before .if2 .taken) (c .if3 .taken)
 
@@ -36,40 +30,13 @@ above c = positive (c .before .before .before .args .x) (held (c .before .before
 shifted : (c : tie.Then4) → Shift (bits (c .before) % 2 ^ 52) (leadingZeros 64 (bits (c .before) % 2 ^ 52) - 11)
 shifted c = shift (bits (c .before) % 2 ^ 52) (omega (arith, above (c .before) .some)) (omega arith)
 
-sub-z : tie.Need-sub-z
-sub-z c = shifted c .zeros
-
-cast-root-bits : tie.Need-cast-root-bits
-cast-root-bits c = omega (arith, shifted c .most)
-
-shl-root-bits : tie.Need-shl-root-bits
-shl-root-bits c = omega (arith, shifted c .most)
-
-cast-root-bits-2 : tie.Need-cast-root-bits-2
-cast-root-bits-2 c = omega (arith, shifted c .most)
-
-sub-root-bits : tie.Need-sub-root-bits
-sub-root-bits c = omega (arith, shifted c .most)
-
 root-bits-requires : tie.Need-root-bits-requires
 root-bits-requires c κs = let s = shifted c in (s .from, s .below, omega (arith, s .most), omega (arith, s .most))
-
-float-from-bits-result : tie.Need-float-from-bits-result
-float-from-bits-result c = known (c .root-bits .result) (c .root-bits .ensures .finite)
 
 returns-3 : tie.Need-returns-3
 returns-3 c =
     let b = bits (c .before .before) in
     c .root-bits .ensures .value ∙ ap rootOf (subnormal b (leadingZeros 64 (b % 2 ^ 52) - 11) (c .before .if4 .taken) (shifted (c .before))) ∙ sym (above (c .before .before) .root)
-
-add-root-bits : tie.Need-add-root-bits
-add-root-bits c = search needs
-
-add-root-bits-2 : tie.Need-add-root-bits-2
-add-root-bits-2 c = omega (arith, above (c .before) .below)
-
-root-bits-requires-2 : tie.Need-root-bits-requires-2
-root-bits-requires-2 c κs = omega (arith, above (c .before) .below)
 
 float-from-bits-result-2 : tie.Need-float-from-bits-result-2
 float-from-bits-result-2 c = known (c .root-bits2 .result) (c .root-bits2 .ensures .finite)
@@ -83,4 +50,10 @@ returns-5 c = level (c .before .before .args .x) (c .before .if1 .left) (c .if2 
 pub sqrt-spec : {M : Type 1} → statement M
 sqrt-spec =
     tie.close
-    (tie.spec returns float-to-bits-b returns-2 sub-z cast-root-bits shl-root-bits cast-root-bits-2 sub-root-bits root-bits-requires float-from-bits-result returns-3 add-root-bits add-root-bits-2 root-bits-requires-2 float-from-bits-result-2 returns-4 returns-5)
+    (tie.spec (λ c. negative (c .before .args .x) (c .if1 .taken))
+    (λ c. number (c .before .before .args .x) (c .if2 .taken)) returns-2 (λ c. shifted c .zeros)
+    (λ c. omega (arith, shifted c .most)) (λ c. omega (arith, shifted c .most))
+    (λ c. omega (arith, shifted c .most)) (λ c. omega (arith, shifted c .most)) root-bits-requires
+    (λ c. known (c .root-bits .result) (c .root-bits .ensures .finite)) returns-3 (λ c. search needs)
+    (λ c. omega (arith, above (c .before) .below)) (λ c κs. omega (arith, above (c .before) .below))
+    float-from-bits-result-2 returns-4 returns-5)

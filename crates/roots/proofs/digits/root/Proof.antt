@@ -15,30 +15,12 @@ abbrev μ-loop : tie.MeasureT-loop
 loop-holds : tie.Need-loop-holds Inv-loop μ-loop
 loop-holds c = (54, refl, omega arith, record { same = omega arith; less = omega arith })
 
-mul-left : tie.Need-mul-left Inv-loop μ-loop
-mul-left c = omega arith
-
-mul-step : tie.Need-mul-step Inv-loop μ-loop
-mul-step c = omega arith
-
-add-step : tie.Need-add-step Inv-loop μ-loop
-add-step c = omega arith
-
-add-q : tie.Need-add-q Inv-loop μ-loop
-add-q c = omega arith
-
-loop-less : tie.Need-loop-less Inv-loop μ-loop
-loop-less c = omega arith
-
 loop-again : tie.Need-loop-again Inv-loop μ-loop
 loop-again c =
     let l = c .before .before .loop in
     let u = l .unit / 2 in
     let h = half (l .inv .0) (l .unit) (l .inv .1) (omega arith) in
     (h .0, h .1, omega (arith, h .2), one (c .before .before .before .args .m * 2 ^ 54) (l .q) (l .left) u (rw (← h .2) (l .inv .3)) (c .if1 .taken))
-
-loop-less-2 : tie.Need-loop-less-2 Inv-loop μ-loop
-loop-less-2 c = omega arith
 
 loop-again-2 : tie.Need-loop-again-2 Inv-loop μ-loop
 loop-again-2 c =
@@ -53,4 +35,7 @@ returns c =
     end (c .before .before .args .m * 2 ^ 54) (l .q) (l .left) (rw (last (l .inv .0) (l .unit) (l .inv .1) (omega arith)) at (l .inv .3))
 
 pub root-spec : {M : Type 1} → statement M
-root-spec = tie.close (tie.spec Inv-loop μ-loop loop-holds mul-left mul-step add-step add-q loop-less loop-again loop-less-2 loop-again-2 returns)
+root-spec =
+    tie.close
+    (tie.spec Inv-loop μ-loop loop-holds (λ c. omega arith) (λ c. omega arith) (λ c. omega arith)
+    (λ c. omega arith) (λ c. omega arith) loop-again (λ c. omega arith) loop-again-2 returns)
