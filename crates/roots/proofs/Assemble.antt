@@ -8,8 +8,8 @@ use lib.Dec.{lit<, lit≤}
 use lib.Pow.{pow-add, pow-pos}
 use lib.Ieee.{binary64, nearest, ofBits}
 use Rattle.roots.specs.Root.{IsRoot, RootBits}
-use Rattle.roots.proofs.Squares.{sq-le, root-ge, root-lt}
-use Rattle.roots.proofs.Ladder.{unitsOf, place, side}
+use Rattle.roots.proofs.Squares.{side, sq-le, root-ge, root-lt}
+use Rattle.roots.proofs.Ladder.{unitsOf, place}
 use Rattle.roots.proofs.Rounding.{Ordered, ordered, middle, nearest-far, root-rung}
 
 parity : (q : ℕ) → (q ≡ 2 * (q / 2)) ⊎ (q ≡ 2 * (q / 2) + 1)

@@ -18,14 +18,7 @@ use lib.Ieee.Exact.{HasValue, units-val, odd-sign}
 use Rattle.floats.specs.Signs.{minus}
 use Rattle.floats.proofs.SignLaws.{sign-bit}
 use Rattle.roots.specs.Nearest.{Holds}
-
--- ---- numbers
-pub side : (a b : ℕ) → (a < b) ⊎ (b ≤ a)
-side a b = go (ltb a b) (ltb→lt a b) (nltb→le a b)
-  where
-    go : (t : Bool) → (T t → a < b) → (T (not t) → b ≤ a) → (a < b) ⊎ (b ≤ a)
-    go true y n = inl (y tt)
-    go false y n = inr (n tt)
+use Rattle.roots.proofs.Squares.{side}
 
 -- infinity's pattern
 abbrev pub top : ℕ

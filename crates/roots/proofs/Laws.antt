@@ -17,7 +17,8 @@ use lib.Ieee.Positive.{positive, positive-finite, positive-of-value, value-pos}
 use Rattle.floats.specs.Words.{_⊕_, _⊗_, squareOf}
 use Rattle.floats.specs.Signs.{minus}
 use Rattle.roots.specs.Root.{rootOf, sqrtOf}
-use Rattle.roots.proofs.Ladder.{side, unitsOf, below-top, own-value, holds}
+use Rattle.roots.proofs.Squares.{side}
+use Rattle.roots.proofs.Ladder.{unitsOf, below-top, own-value, holds}
 use Rattle.roots.specs.Nearest.{Holds}
 use Rattle.roots.proofs.Nearest.{root-is-nearest}
 use Rattle.roots.proofs.Rounding.{rootOf-is}

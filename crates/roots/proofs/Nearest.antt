@@ -11,8 +11,8 @@ use lib.Ieee.{Float, binary64, nearest, ofBits, toBits}
 use lib.Ieee.Fits.{nearest-le}
 use Rattle.roots.specs.Root.{rootOf}
 use Rattle.roots.specs.Nearest.{NearestRoot, RootIsNearest, NearestIsOne}
-use Rattle.roots.proofs.Squares.{sq-le, sq-lt}
-use Rattle.roots.proofs.Ladder.{side, top, unitsOf, rising, level, rung, holds, written}
+use Rattle.roots.proofs.Squares.{side, sq-le, sq-lt}
+use Rattle.roots.proofs.Ladder.{top, unitsOf, rising, level, rung, holds, written}
 use Rattle.roots.proofs.Rounding.{Ordered, ordered, middle, root-rung}
 use Rattle.roots.proofs.Cases.{sqrt-units}
 

@@ -2,24 +2,28 @@
 ghost use Prim.Native.Nat.{_+_, _*_, _^_, _≤_, _<_};
 ghost use Rattle.roots.specs.Root.{IsRoot, RootBits};
 
-// The whole part of √(m * 2^54), a digit at a turn. With what is left of the number in units of
-// `unit`, and q a multiple of it, q + unit / 2 is not above the root exactly where twice `left`
-// is 2 * q + unit / 2 at least.
-pub fn root(m: u64) -> u64
+// 2^52, the weight of the leading digit, which a pattern leaves out; and 2^63, the highest bit.
+pub const LEADING: u64 = 0x10_0000_0000_0000;
+
+const HIGHEST: u64 = 0x8000_0000_0000_0000;
+
+// The whole part of √(m * 2^54), a digit at a turn. q is a multiple of `unit`, and twice what is
+// left of the number above q * q is `left` units. The next digit is 1 where `step` is not above
+// `left`. It is worked out by a carry into the highest bit: a branch on it is guessed wrong half
+// the time.
+fn root(m: u64) -> u64
     requires { ⌜ m < 2 ^ 54 ⌝ }
     ensures { λ q. ⌜ IsRoot (m * 2 ^ 54) q ⌝ }
 {
     let mut q: u64 = 0;
-    let mut left = m;
-    let mut unit: u64 = 18014398509481984;
+    let mut left = 2 * m;
+    let mut unit: u64 = 0x40_0000_0000_0000;
     while 1 < unit {
         unit = unit / 2;
-        left = 2 * left;
         let step = 2 * q + unit;
-        if step <= left {
-            left = left - step;
-            q = q + unit;
-        }
+        let digit = (left + HIGHEST - step) / HIGHEST;
+        left = 2 * left - 2 * step * digit;
+        q = q + unit * digit;
     }
     q
 }
@@ -32,5 +36,5 @@ pub fn root_bits(m: u64, s: u64) -> u64
     ensures { λ r. ⌜ RootBits (m * 2 ^ s) r ⌝ }
 {
     let q = root(m * (1 + s % 2));
-    (s / 2 - 26) * 4503599627370496 + (q + 1) / 2
+    (s / 2 - 26) * LEADING + (q + 1) / 2
 }

@@ -2,7 +2,7 @@
 use mathlib.Core.Path.{_≡_, refl}
 use Prim.Native.Nat.{ℕ, _+_, _*_, _/_, _^_, _≤_}
 use native.Mathlib.Omega.{arith}
-use Rattle.roots.proofs.Squares.{Walk, end, one, nought, half, last}
+use Rattle.roots.proofs.Squares.{Walk, digit, end, within, more, half, last}
 use Rattle.roots.proofs.digits.root.Statement.{statement}
 use Rattle.roots.proofs.digits.root.Tie as tie
 
@@ -15,19 +15,31 @@ abbrev μ-loop : tie.MeasureT-loop
 loop-holds : tie.Need-loop-holds Inv-loop μ-loop
 loop-holds c = (54, refl, omega arith, record { same = omega arith; less = omega arith })
 
+-- a product with the digit is within its other factor, and the step within what is left
+abbrev Within : tie.In-loop Inv-loop μ-loop → ℕ → Type 0
+Within c x = let l = c .before .loop in let d = digit (l .left) (2 * l .q + l .unit / 2) in (x * d ≤ x) × ((2 * l .q + l .unit / 2) * d ≤ l .left)
+
+bounds : (c : tie.In-loop Inv-loop μ-loop) (x : ℕ) → Within c x
+bounds c x = let l = c .before .loop in within (l .left) (2 * l .q + l .unit / 2) x (omega arith) (omega arith)
+
+mul-left-4 : tie.Need-mul-left-4 Inv-loop μ-loop
+mul-left-4 c = omega (arith, bounds c 0)
+
+sub-left : tie.Need-sub-left Inv-loop μ-loop
+sub-left c = omega (arith, bounds c 0)
+
+mul-q : tie.Need-mul-q Inv-loop μ-loop
+mul-q c = omega (arith, bounds c (c .before .loop .unit / 2))
+
+add-q : tie.Need-add-q Inv-loop μ-loop
+add-q c = omega (arith, bounds c (c .before .loop .unit / 2))
+
 loop-again : tie.Need-loop-again Inv-loop μ-loop
 loop-again c =
-    let l = c .before .before .loop in
+    let l = c .before .loop in
     let u = l .unit / 2 in
     let h = half (l .inv .0) (l .unit) (l .inv .1) (omega arith) in
-    (h .0, h .1, omega (arith, h .2), one (c .before .before .before .args .m * 2 ^ 54) (l .q) (l .left) u (rw (← h .2) (l .inv .3)) (c .if1 .taken))
-
-loop-again-2 : tie.Need-loop-again-2 Inv-loop μ-loop
-loop-again-2 c =
-    let l = c .before .before .loop in
-    let u = l .unit / 2 in
-    let h = half (l .inv .0) (l .unit) (l .inv .1) (omega arith) in
-    (h .0, h .1, omega (arith, h .2), nought (c .before .before .before .args .m * 2 ^ 54) (l .q) (l .left) u (rw (← h .2) (l .inv .3)) (c .if1 .left))
+    (h .0, h .1, omega (arith, h .2, bounds c u), more (c .before .before .args .m * 2 ^ 54) (l .q) (l .left) u (omega arith) (omega arith) (rw (← h .2) (l .inv .3)))
 
 returns : tie.Need-returns Inv-loop μ-loop
 returns c =
@@ -37,5 +49,5 @@ returns c =
 pub root-spec : {M : Type 1} → statement M
 root-spec =
     tie.close
-    (tie.spec Inv-loop μ-loop loop-holds (λ c. omega arith) (λ c. omega arith) (λ c. omega arith)
-    (λ c. omega arith) (λ c. omega arith) loop-again (λ c. omega arith) loop-again-2 returns)
+    (tie.spec Inv-loop μ-loop (λ c. omega arith) loop-holds (λ c. omega arith) (λ c. omega arith) (λ c. omega arith) (λ c. omega arith)
+    (λ c. omega arith) (λ c. omega arith) mul-left-4 sub-left mul-q add-q (λ c. omega arith) loop-again returns)
