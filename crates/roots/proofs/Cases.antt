@@ -1,0 +1,122 @@
+-- `sqrtOf` at each kind of f64 that `sqrt` tells apart. Assumes nothing.
+use mathlib.Core.Path.{_≡_, refl, sym, ap, _∙_}
+use Prim.Native.Nat.{ℕ, zero, suc, _+_, _-_, _*_, _/_, _%_, _^_, _≤_, _<_}
+use native.Mathlib.Nat.{zero-lt-suc, lt-of-le-of-lt, lt-of-not-le, not-le-of-lt, mod-eq-of-lt, mul-assoc, mul-le-mul-right, mul-lt-mul-of-pos-right, pow-succ', mul-pos, mul-div-cancel}
+use native.Mathlib.Omega.{arith}
+use mathlib.Core.Bool.{true, false, not, true≢false, false≢true}
+use lib.Dec.{T}
+use lib.Pow.{pow-add, pow-mono, pow-pos}
+use lib.Count.{leadingZeros, leading-top}
+use borrow.Author.Tests.{ltb-true, ltb-false}
+use lib.Ieee.{Float, nan, inf, fin, binary64, up, down, lt, div, fits, isNan, ofBits, toBits}
+use lib.Ieee.Fits.{up-pos, down-pos}
+use lib.Ieee.Bits.{ofBits-toBits}
+use lib.Ieee.Exact.{HasValue}
+use Rattle.floats.specs.Words.{plusZero}
+use Rattle.floats.specs.Signs.{minus}
+use Rattle.roots.specs.Root.{sqrtOf, rootOf}
+use Rattle.roots.proofs.Ladder.{top, unitsOf, rising, below-top, own-value}
+
+pub negative : (x : Float) → lt x plusZero ≡ true → div binary64 plusZero plusZero ≡ sqrtOf x
+unfolding lt div ofBits sqrtOf
+negative nan h = refl
+negative (inf true) h = refl
+negative (inf false) h = absurd (false≢true h)
+negative (fin true zero e) h = absurd (omega (arith, ltb-true))
+negative (fin true (suc m) e) h = refl
+negative (fin false m e) h = absurd (omega (arith, ltb-true))
+
+pub number : (x : Float) → lt plusZero x ≡ true → T (not (isNan x))
+unfolding lt isNan ofBits
+number nan h = absurd (false≢true h)
+number (inf s) h = tt
+number (fin s m e) h = tt
+
+-- what is neither below zero nor above it, a zero or a NaN, is its own root
+pub level : (x : Float) → lt x plusZero ≡ false → lt plusZero x ≡ false → x ≡ sqrtOf x
+unfolding lt ofBits sqrtOf
+level nan h k = refl
+level (inf true) h k = absurd (true≢false h)
+level (inf false) h k = absurd (true≢false k)
+level (fin s zero e) h k = refl
+level (fin true (suc m) e) h k = absurd (omega (arith, ltb-false, up-pos e))
+level (fin false (suc m) e) h k = absurd (omega (arith, ltb-false, up-pos e))
+
+-- ---- above zero: infinity, or a finite value by its pattern
+pub infinite : (x : Float) → T (fits binary64 x) → lt plusZero x ≡ true → toBits binary64 x / 2 ^ 52 ≡ 2047 → x ≡ sqrtOf x
+unfolding lt ofBits sqrtOf minus
+infinite nan F h e = refl
+infinite (inf true) F h e = absurd (false≢true h)
+infinite (inf false) F h e = refl
+infinite (fin true m d) F h e = absurd (false≢true h)
+infinite (fin false m d) F h e = absurd (omega (arith, below-top (fin false m d) F tt refl))
+
+pub sqrt-units : (x : Float) (a : ℕ) → 0 < a → HasValue x false a (2 ^ 1074) → sqrtOf x ≡ rootOf (a * 2 ^ 1074)
+unfolding sqrtOf
+sqrt-units nan a p h = absurd h
+sqrt-units (inf s) a p h = absurd h
+sqrt-units (fin s zero e) a p h = absurd (none (up e) (2 ^ 1074) (a * down e) (mul-pos p (down-pos e)) (h .1))
+  where
+    none : (u w y : ℕ) → 0 < y → 0 * u * w ≡ y → ⊥
+    none u w y p e = omega arith
+sqrt-units (fin true (suc m) e) a p h = absurd (true≢false (h .0))
+sqrt-units (fin false (suc m) e) a p h = ap (λ (n : ℕ). rootOf (n * 2 ^ 1074)) (ap (λ (n : ℕ). n / down e) (h .1) ∙ mul-div-cancel a (down-pos e))
+
+pub record Positive (x : Float) (b : ℕ) : Type 0 where
+  pub some : 0 < b
+  pub below : b < top
+  pub root : sqrtOf x ≡ rootOf (unitsOf b * 2 ^ 1074)
+
+bounded : (x : Float) → T (fits binary64 x) → lt plusZero x ≡ true → (toBits binary64 x / 2 ^ 52 ≡ 2047 → ⊥) → toBits binary64 x < top
+unfolding lt ofBits toBits minus
+bounded nan F h n = absurd (false≢true h)
+bounded (inf true) F h n = absurd (false≢true h)
+bounded (inf false) F h n = absurd (n refl)
+bounded (fin true m d) F h n = absurd (false≢true h)
+bounded (fin false m d) F h n = below-top (fin false m d) F tt refl
+
+some : (b : ℕ) → lt plusZero (ofBits binary64 b) ≡ true → 0 < b
+unfolding lt ofBits
+some zero h = absurd (false≢true h)
+some (suc b) h = zero-lt-suc b
+
+pub positive : (x : Float) → T (fits binary64 x) → lt plusZero x ≡ true → (toBits binary64 x / 2 ^ 52 ≡ 2047 → ⊥) → Positive x (toBits binary64 x)
+positive x F h n =
+    let b = toBits binary64 x in
+    let u = bounded x F h n in
+    let s : 0 < b = some b (rw (ofBits-toBits binary64 x F) h) in
+    record { some = s; below = u; root = sqrt-units x (unitsOf b) (rising 0 b s) (own-value x F u) }
+
+-- ---- its units with 53 digits, the leading one as the field has it, or shifted up to where a field would have it
+pub normal : (b : ℕ) → (b / 2 ^ 52 ≡ 0 → ⊥) → (2 ^ 52 + b % 2 ^ 52) * 2 ^ (b / 2 ^ 52 + 1073) ≡ unitsOf b * 2 ^ 1074
+normal b n =
+    let k = b / 2 ^ 52 - 1 in
+    let e : b / 2 ^ 52 + 1073 ≡ k + 1074 = omega arith in
+    let q : 2 ^ 52 + b % 2 ^ 52 ≡ b - k * 2 ^ 52 = omega arith in
+    rw (e, q, pow-add 2 k 1074) (sym (mul-assoc (b - k * 2 ^ 52) (2 ^ k) (2 ^ 1074)))
+
+pub record Shift (t z : ℕ) : Type 0 where
+  pub zeros : 11 ≤ leadingZeros 64 t
+  pub most : z ≤ 52
+  pub from : 2 ^ 52 ≤ t * 2 ^ z % 2 ^ 64
+  pub below : t * 2 ^ z % 2 ^ 64 < 2 ^ 53
+  pub same : t * 2 ^ z % 2 ^ 64 ≡ t * 2 ^ z
+
+pub shift : (t : ℕ) → 0 < t → t < 2 ^ 52 → Shift t (leadingZeros 64 t - 11)
+shift t p u =
+    let top = leading-top 64 t p (omega arith) in
+    let j = top .0 in
+    let z = leadingZeros 64 t - 11 in
+    let l : j < 52 = lt-of-not-le (λ (g : 52 ≤ j). not-le-of-lt (lt-of-le-of-lt (top .2) u) (pow-mono g)) in
+    let e : j + z ≡ 52 = omega (arith, top .1) in
+    let w : 2 ^ j * 2 ^ z ≡ 2 ^ 52 = sym (pow-add 2 j z) ∙ rw e in
+    let lo : 2 ^ 52 ≤ t * 2 ^ z = omega (arith, mul-le-mul-right (2 ^ z) (top .2)) in
+    let hi : t * 2 ^ z < 2 ^ 53 = omega (arith, rw (pow-succ' 2 j) at (mul-lt-mul-of-pos-right (top .3) (pow-pos z))) in
+    let same : t * 2 ^ z % 2 ^ 64 ≡ t * 2 ^ z = mod-eq-of-lt (omega arith) in
+    record { zeros = omega (arith, top .1); most = omega arith; from = omega arith; below = omega arith; same = same }
+
+pub subnormal : (b z : ℕ) → b / 2 ^ 52 ≡ 0 → Shift (b % 2 ^ 52) z → b % 2 ^ 52 * 2 ^ z % 2 ^ 64 * 2 ^ (1074 - z) ≡ unitsOf b * 2 ^ 1074
+subnormal b z e s =
+    let w : z + (1074 - z) ≡ 1074 = omega (arith, s .most) in
+    let q : b % 2 ^ 52 ≡ (b - 0) * 1 = omega arith in
+    rw (s .same, mul-assoc (b % 2 ^ 52) (2 ^ z) (2 ^ (1074 - z)), ← pow-add 2 z (1074 - z), w, e, q)

@@ -1,0 +1,75 @@
+-- `sqrtOf` and `hypotOf` at worked examples, by computation. Assumes nothing.
+use mathlib.Core.Path.{_≡_, refl}
+use mathlib.Core.Bool.{true, false}
+use lib.Ieee.{nan, inf, add, mul, neg, lt, ofBits}
+use Rattle.floats.specs.Words.{float, plusZero, minusZero, one, two}
+use Rattle.roots.specs.Root.{sqrtOf}
+use Rattle.roots.specs.Hypot.{hypotOf}
+
+four : sqrtOf (float 0x4010000000000000) ≡ two
+unfolding sqrtOf ofBits
+four = refl
+
+root-of-two : sqrtOf two ≡ float 0x3ff6a09e667f3bcd
+unfolding sqrtOf ofBits
+root-of-two = refl
+
+-- the smallest value, 2 ^ -1074, has the root 2 ^ -537
+smallest : sqrtOf (float 1) ≡ float 0x1e60000000000000
+unfolding sqrtOf ofBits
+smallest = refl
+
+largest : sqrtOf (float 0x7fefffffffffffff) ≡ float 0x5fefffffffffffff
+unfolding sqrtOf ofBits
+largest = refl
+
+zeros : (sqrtOf plusZero ≡ plusZero) × (sqrtOf minusZero ≡ minusZero)
+unfolding sqrtOf ofBits neg
+zeros = (refl, refl)
+
+minus-one : sqrtOf (neg one) ≡ nan
+unfolding sqrtOf ofBits neg
+minus-one = refl
+
+endless : (sqrtOf (inf false) ≡ inf false) × (sqrtOf (inf true) ≡ nan) × (sqrtOf nan ≡ nan)
+unfolding sqrtOf
+endless = (refl, refl, refl)
+
+-- ---- hypot: 3 and -4; 1 and 1; the smallest value twice, √2 units, which is nearer to 1 of them; 2 ^ -600 and 2 ^ 600 of the first pair
+three-four : hypotOf (float 0x4008000000000000) (float 0xc010000000000000) ≡ float 0x4014000000000000
+unfolding hypotOf add mul sqrtOf lt ofBits
+three-four = refl
+
+diagonal : hypotOf one one ≡ float 0x3ff6a09e667f3bcd
+unfolding hypotOf add mul sqrtOf lt ofBits
+diagonal = refl
+
+least-twice : hypotOf (float 1) (float 1) ≡ float 1
+unfolding hypotOf add mul sqrtOf lt ofBits
+least-twice = refl
+
+far-down : hypotOf (float 0x1a88000000000000) (float 0x1a90000000000000) ≡ float 0x1a94000000000000
+unfolding hypotOf add mul sqrtOf lt ofBits
+far-down = refl
+
+far-up : hypotOf (float 0x6588000000000000) (float 0x6590000000000000) ≡ float 0x6594000000000000
+unfolding hypotOf add mul sqrtOf lt ofBits
+far-up = refl
+
+-- the largest value and 0; the largest twice, which overflows; the zeros
+largest-alone : hypotOf (float 0x7fefffffffffffff) minusZero ≡ float 0x7fefffffffffffff
+unfolding hypotOf add mul sqrtOf lt ofBits neg
+largest-alone = refl
+
+largest-twice : hypotOf (float 0x7fefffffffffffff) (float 0x7fefffffffffffff) ≡ inf false
+unfolding hypotOf add mul sqrtOf lt ofBits
+largest-twice = refl
+
+minus-zeros : hypotOf minusZero minusZero ≡ plusZero
+unfolding hypotOf add mul sqrtOf lt ofBits neg
+minus-zeros = refl
+
+-- an infinity, beside a NaN too; a NaN
+no-ends : (hypotOf (inf true) nan ≡ inf false) × (hypotOf nan (inf true) ≡ inf false) × (hypotOf one (inf false) ≡ inf false) × (hypotOf nan one ≡ nan) × (hypotOf one nan ≡ nan)
+unfolding hypotOf add mul sqrtOf lt ofBits
+no-ends = (refl, refl, refl, refl, refl)

@@ -1,0 +1,31 @@
+-- What it is to be the correctly rounded root, said with no algorithm: by whole-number squares.
+-- Values are counted in units of the smallest value, 2 ^ -1074.
+-- Definitions only. Assumes nothing.
+use mathlib.Core.Path.{_≡_}
+use Prim.Native.Nat.{ℕ, _+_, _*_, _%_, _^_, _≤_, _<_}
+use mathlib.Core.Bool.{false}
+use lib.Dec.{T}
+use lib.Ieee.{Float, binary64, fits, toBits}
+use lib.Ieee.Exact.{HasValue}
+use Rattle.roots.specs.Root.{sqrtOf}
+
+-- y is a value of the format, not negative, of Y units
+abbrev pub Holds : Float → ℕ → Type 0
+Holds y Y = T (fits binary64 y) × HasValue y false Y (2 ^ 1074)
+
+-- r, of R units, is the value of the format that is nearest to √n units.
+-- For any other value y, √n lies on r's side of the middle of the two, (R + Y) / 2; both are doubled and squared.
+-- Where √n is in the middle itself, r is the one whose bit pattern, and so whose last digit, is even.
+pub record NearestRoot (n : ℕ) (r : Float) (R : ℕ) : Type 0 where
+  pub holds : Holds r R
+  pub above : (y : Float) (Y : ℕ) → Holds y Y → R < Y → 4 * n ≤ (R + Y) * (R + Y)
+  pub below : (y : Float) (Y : ℕ) → Holds y Y → Y < R → (R + Y) * (R + Y) ≤ 4 * n
+  pub even : (y : Float) (Y : ℕ) → Holds y Y → (Y ≡ R → ⊥) → (R + Y) * (R + Y) ≡ 4 * n → toBits binary64 r % 2 ≡ 0
+
+-- At every value x above zero, of a units, `sqrtOf x` is the nearest to the root of x. (proofs/Nearest.antt: root-is-nearest)
+abbrev pub RootIsNearest : Type 0
+RootIsNearest = (x : Float) (a : ℕ) → Holds x a → 0 < a → (R : ℕ) × NearestRoot (a * 2 ^ 1074) (sqrtOf x) R
+
+-- There is one nearest value. (proofs/Nearest.antt: nearest-is-one)
+abbrev pub NearestIsOne : Type 0
+NearestIsOne = (n : ℕ) (r s : Float) (R S : ℕ) → NearestRoot n r R → NearestRoot n s S → r ≡ s

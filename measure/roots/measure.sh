@@ -1,0 +1,34 @@
+#!/bin/sh
+# Measures sqrt and hypot of crates/roots, as they stand in src/, against the platform's square root and MPFR, and prints the table of
+# README.md. Usage: measure.sh [COUNT]   (patterns, and pairs a family; 1000000 unless said: about two minutes)
+# Needs rustc, a C compiler, MPFR with its header (Debian: libmpfr-dev) and python3. Writes below target/ only.
+set -eu
+count=${1:-1000000}
+case $count in '' | *[!0-9]*) echo "usage: measure.sh [COUNT]" >&2; exit 2 ;; esac
+cd "$(dirname "$0")/../.."
+out=target/measure/roots
+here=measure/roots
+rustc=${RUSTC:-rustc}
+cc=${CC:-cc}
+for tool in "$rustc" "$cc" python3; do
+    command -v "$tool" >/dev/null || { echo "measure.sh: no $tool on the PATH" >&2; exit 1; }
+done
+echo '#include <mpfr.h>' | "$cc" -E - >/dev/null 2>&1 || { echo "measure.sh: no mpfr.h (Debian: apt-get install libmpfr-dev)" >&2; exit 1; }
+mkdir -p $out/src
+# The .rt files with their clauses cut out are Rust.
+python3 - $out/src <<'PYTHON'
+import os, sys
+sys.path.insert(0, os.path.join("oracle", "tools"))
+import strip
+try:
+    files = strip.rust_of_crate(os.path.join("crates", "roots"))
+except strip.StripError as error:
+    sys.exit("measure.sh: crates/roots: %s" % error)
+for place, text in files.items():
+    with open(os.path.join(sys.argv[1], place), "w", encoding="utf-8") as stream:
+        stream.write(text)
+PYTHON
+"$rustc" --edition 2021 -O --crate-type rlib --crate-name roots --cap-lints allow -o $out/libroots.rlib $out/src/lib.rs
+"$rustc" --edition 2021 -O --crate-type staticlib -C panic=abort -L $out --extern roots -o $out/libport.a $here/port.rs
+"$cc" -O2 -Wall -Wextra -o $out/measure $here/measure.c $out/libport.a -lmpfr -lgmp -lpthread -ldl -lm
+exec $out/measure "$count"
