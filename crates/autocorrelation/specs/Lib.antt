@@ -1,1 +1,2 @@
 pub mod Statistic
+pub mod Bound

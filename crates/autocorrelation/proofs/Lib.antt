@@ -1,0 +1,4 @@
+pub mod Close
+pub mod Rounding
+pub mod Units
+pub mod SumLaws

@@ -1,0 +1,215 @@
+-- The operations on values that are whole numbers of units of 2^-1074: each is one `round` of the exact result in units. And every finite value
+-- that binary64 holds is such a whole number, of 53 digits and some zeros. Assumes nothing.
+use mathlib.Core.Path.{_≡_, refl, sym, ap, _∙_, subst}
+use Prim.Native.Nat.{ℕ, zero, suc, _+_, _-_, _*_, _/_, _%_, _^_, _≤_, _<_}
+use native.Mathlib.Nat.{le-trans, le-of-eq, le-of-lt, lt-of-le-of-lt, lt-of-lt-of-le, lt-irrefl, not-le-of-lt, zero-lt-suc, add-zero, add-mul, zero-mul, zero-div, one-mul, mul-comm, mul-assoc, mul-one, mul-right-comm, mul-mul-mul-comm, mul-sub, mul-pos, mul-le-mul-right, mul-lt-mul-of-pos-right, le-of-mul-le-mul-right, lt-of-mul-lt-mul-right, eq-of-mul-eq-mul-right, mul-div-cancel, sub-add-cancel, sub-zero}
+use native.Mathlib.Omega.{arith}
+use mathlib.Core.Bool.{Bool, true, false, not, _&&_, Bool·beq, cond, true≢false}
+use lib.IntN.{ℤ, pos, negsuc, negℤ, natAbs, _+ℤ_, _-ℤ_, subℕ, negℤ-negℤ, negℤ-+ℤ, +ℤ-comm}
+use lib.Dec.{T, ltb, leb, eqb, ltb→lt, leb→le, nltb→le, eqb→eq, lit<}
+use lib.Pow.{pow-add, pow-pos, pow-lt}
+use borrow.Author.Tests.{lt-ltb, le-ltb}
+use lib.Ieee.{Float, nan, inf, fin, binary64, up, down, unlike, round, sum, add, sub, mul, div, neg, fits, ofBits}
+use lib.Ieee.Fits.{up-pos, down-pos, and-l, and-r}
+use lib.Ieee.Exact.{HasValue}
+use lib.Ieee.Scale.{round-same, finite}
+use lib.Ieee.Positive.{first-pos}
+use Rattle.floats.specs.Words.{_⊕_, _⊖_, _⊗_, _⊘_, minusZero}
+use Rattle.autocorrelation.specs.Bound.{signed, exact}
+use Rattle.autocorrelation.proofs.Rounding.{Valued}
+
+-- ---- a / c and b / c are A / L and B / L
+module _ (L : ℕ) (LP : 0 < L) where
+  across : (x de dd A : ℕ) → x * L ≡ A * de → x * dd * L ≡ A * (de * dd)
+  across x de dd A p = mul-right-comm x dd L ∙ ap (λ (z : ℕ). z * dd) p ∙ mul-assoc A de dd
+
+  plus : (a b c A B : ℕ) → a * L ≡ A * c → b * L ≡ B * c → (a + b) * L ≡ (A + B) * c
+  plus a b c A B p q = omega arith
+
+  less : (a b c A B : ℕ) → a * L ≡ A * c → b * L ≡ B * c → (a - b) * L ≡ (A - B) * c
+  less a b c A B p q = omega (arith, mul-comm (a - b) L, mul-sub L a b, mul-comm L a, mul-comm L b, mul-comm (A - B) c, mul-sub c A B, mul-comm c A, mul-comm c B)
+
+  order : (a b c A B : ℕ) → 0 < c → a * L ≡ A * c → b * L ≡ B * c → ltb a b ≡ ltb A B
+  order a b c A B C p q = go (ltb a b) (ltb→lt a b) (nltb→le a b)
+    where
+      go : (t : Bool) → (T t → a < b) → (T (not t) → b ≤ a) → t ≡ ltb A B
+      go true h g = sym (lt-ltb A B (lt-of-mul-lt-mul-right c (lt-of-le-of-lt (le-of-eq (sym p)) (lt-of-lt-of-le (mul-lt-mul-of-pos-right (h tt) LP) (le-of-eq q)))))
+      go false h g = sym (le-ltb A B (le-of-mul-le-mul-right (le-trans (le-of-eq (sym q)) (le-trans (mul-le-mul-right L (g tt)) (le-of-eq p))) C))
+
+  sum-same : (s : Bool) (a : ℕ) (t : Bool) (b c A B : ℕ) → 0 < c → a * L ≡ A * c → b * L ≡ B * c → sum binary64 s a t b c ≡ sum binary64 s A t B L
+  unfolding sum
+  sum-same s a t b c A B C p q =
+      rw (round-same binary64 s (a + b) c (A + B) L C LP (plus a b c A B p q), round-same binary64 t (b - a) c (B - A) L C LP (less b a c B A q p),
+      round-same binary64 (s && ltb b a) (a - b) c (A - B) L C LP (less a b c A B p q), order a b c A B C p q, order b a c B A C q p)
+
+-- ---- sums and differences
+pub add-is : (x y : Float) (s t : Bool) (A B : ℕ) → Valued x s A → Valued y t B → x ⊕ y ≡ sum binary64 s A t B (2 ^ 1074)
+unfolding add
+add-is nan y s t A B p q = absurd p
+add-is (inf r) y s t A B p q = absurd p
+add-is (fin r m e) nan s t A B p q = absurd q
+add-is (fin r m e) (inf w) s t A B p q = absurd q
+add-is (fin r m e) (fin w n d) s t A B p q =
+    rw (← p .0, ← q .0)
+    (sum-same (2 ^ 1074) (pow-pos 1074) r (m * up e * down d) w (n * up d * down e) (down e * down d) A B (mul-pos (down-pos e) (down-pos d))
+    (across (2 ^ 1074) (pow-pos 1074) (m * up e) (down e) (down d) A (p .1))
+    (across (2 ^ 1074) (pow-pos 1074) (n * up d) (down d) (down e) B (q .1) ∙ ap (λ (z : ℕ). B * z) (mul-comm (down d) (down e))))
+
+-- of values that are not negative
+pub plus-is : (x y : Float) (A B : ℕ) → Valued x false A → Valued y false B → x ⊕ y ≡ round binary64 false (A + B) (2 ^ 1074)
+unfolding sum
+plus-is x y A B p q = add-is x y false false A B p q
+
+-- from -0
+pub start-is : (x : Float) (A : ℕ) → Valued x false A → minusZero ⊕ x ≡ round binary64 false A (2 ^ 1074)
+start-is x A p = add-is minusZero x true false 0 A below p ∙ from A
+  where
+    below : Valued minusZero true 0
+    below = unfold neg ofBits in (refl, refl)
+
+    from : (A : ℕ) → sum binary64 true 0 false A (2 ^ 1074) ≡ round binary64 false A (2 ^ 1074)
+    from zero = unfold sum in refl
+    from (suc a) = unfold sum in rw (lt-ltb 0 (suc a) (zero-lt-suc a), sub-zero)
+
+-- ---- the size of a difference
+abs-neg : (z : ℤ) → natAbs (negℤ z) ≡ natAbs z
+abs-neg (pos zero) = refl
+abs-neg (pos (suc n)) = refl
+abs-neg (negsuc n) = refl
+
+pub abs-minus : (A B : ℕ) → natAbs (pos A -ℤ pos B) ≡ A - B + (B - A)
+abs-minus A zero = omega arith
+abs-minus A (suc b) = go (ltb A (suc b)) (ltb→lt A (suc b)) (nltb→le A (suc b))
+  where
+    go : (t : Bool) → (T t → A < suc b) → (T (not t) → suc b ≤ A) → natAbs (cond t (negsuc (suc b - suc A)) (pos (A - suc b))) ≡ A - suc b + (suc b - A)
+    go true h g = omega (arith, h tt)
+    go false h g = omega (arith, g tt)
+
+-- one less the other, rounded, with one sign or the other
+apart : (A B : ℕ) (r w : Bool) (Z : ℕ) → Z ≡ A - B + (B - A) → (k : Bool) × (cond (ltb A B) (round binary64 r (B - A) (2 ^ 1074)) (round binary64 w (A - B) (2 ^ 1074)) ≡ round binary64 k Z (2 ^ 1074))
+apart A B r w Z z = go (ltb A B) (ltb→lt A B) (nltb→le A B)
+  where
+    go : (t : Bool) → (T t → A < B) → (T (not t) → B ≤ A) → (k : Bool) × (cond t (round binary64 r (B - A) (2 ^ 1074)) (round binary64 w (A - B) (2 ^ 1074)) ≡ round binary64 k Z (2 ^ 1074))
+    go true h g = (r, ap (λ (n : ℕ). round binary64 r n (2 ^ 1074)) (omega (arith, h tt)))
+    go false h g = (w, ap (λ (n : ℕ). round binary64 w n (2 ^ 1074)) (omega (arith, g tt)))
+
+difference : (s t : Bool) (A B : ℕ) → (k : Bool) × (sum binary64 s A (not t) B (2 ^ 1074) ≡ round binary64 k (natAbs (signed s A -ℤ signed t B)) (2 ^ 1074))
+unfolding sum
+difference false false A B = apart A B true false (natAbs (pos A -ℤ pos B)) (abs-minus A B)
+difference true true A B = apart A B false (ltb B A) (natAbs (negℤ (pos A) -ℤ negℤ (pos B))) (ap natAbs (sym (negℤ-+ℤ (pos A) (negℤ (pos B)))) ∙ abs-neg (pos A -ℤ pos B) ∙ abs-minus A B)
+difference false true A B = (false, ap (λ (z : ℤ). round binary64 false (natAbs (pos A +ℤ z)) (2 ^ 1074)) (sym (negℤ-negℤ (pos B))))
+difference true false A B = (true, ap (λ (n : ℕ). round binary64 true n (2 ^ 1074)) (sym (ap natAbs (sym (negℤ-+ℤ (pos A) (pos B))) ∙ abs-neg (pos (A + B)))))
+
+pub minus-is : (x y : Float) (s t : Bool) (A B : ℕ) → Valued x s A → Valued y t B → (k : Bool) × (x ⊖ y ≡ round binary64 k (natAbs (signed s A -ℤ signed t B)) (2 ^ 1074))
+unfolding sub neg
+minus-is x nan s t A B p q = absurd q
+minus-is x (inf w) s t A B p q = absurd q
+minus-is x (fin w n d) s t A B p q =
+    let z = difference s t A B in
+    (z .0, add-is x (fin (not w) n d) s (not t) A B p (ap not (q .0), q .1) ∙ z .1)
+
+-- ---- squares and quotients
+like : (s : Bool) → unlike s s ≡ false
+like true = refl
+like false = refl
+
+pub square-is : (x : Float) (s : Bool) (A : ℕ) → Valued x s A → x ⊗ x ≡ round binary64 false (A * A) (2 ^ 1074 * 2 ^ 1074)
+unfolding mul
+square-is nan s A p = absurd p
+square-is (inf r) s A p = absurd p
+square-is (fin r m e) s A p =
+    rw (like r)
+    (round-same binary64 false (m * up e * (m * up e)) (down e * down e) (A * A) (2 ^ 1074 * 2 ^ 1074) (mul-pos (down-pos e) (down-pos e)) (mul-pos (pow-pos 1074) (pow-pos 1074))
+    (twice (m * up e) (down e) (2 ^ 1074) (p .1)))
+  where
+    twice : (k d L : ℕ) → k * L ≡ A * d → k * k * (L * L) ≡ A * A * (d * d)
+    twice k d L h = mul-mul-mul-comm k k L L ∙ ap (λ (z : ℕ). z * z) h ∙ mul-mul-mul-comm A d A d
+
+pub quotient-is : (x y : Float) (A B : ℕ) → Valued x false A → Valued y false B → 0 < B → x ⊘ y ≡ round binary64 false A B
+unfolding div
+quotient-is nan y A B p q b = absurd p
+quotient-is (inf r) y A B p q b = absurd p
+quotient-is (fin r m e) nan A B p q b = absurd q
+quotient-is (fin r m e) (inf w) A B p q b = absurd q
+quotient-is (fin true m e) (fin w n d) A B p q b = absurd (true≢false (p .0))
+quotient-is (fin false m e) (fin true n d) A B p q b = absurd (true≢false (q .0))
+quotient-is (fin false m e) (fin false n d) A B p q b = go (eqb n 0) (eqb→eq n 0)
+  where
+    N : 0 < n
+    N = first-pos n (up d) (first-pos (n * up d) (2 ^ 1074) (subst (λ (z : ℕ). 0 < z) (sym (q .1)) (mul-pos b (down-pos d))))
+
+    over : (x y de dd L : ℕ) → 0 < L → x * L ≡ A * de → y * L ≡ B * dd → x * dd * B ≡ A * (y * de)
+    over x y de dd L P h g =
+        eq-of-mul-eq-mul-right L P (x * dd * B) (A * (y * de))
+        (mul-right-comm (x * dd) B L ∙ ap (λ (z : ℕ). z * B) (across L P x de dd A h) ∙ mul-assoc A (de * dd) B
+        ∙ ap (λ (z : ℕ). A * z) (mul-comm (de * dd) B ∙ ap (λ (z : ℕ). B * z) (mul-comm de dd) ∙ sym (across L P y dd de B g)) ∙ sym (mul-assoc A (y * de) L))
+
+    go : (k : Bool) → (T k → n ≡ 0) → cond k (cond (eqb m 0) nan (inf false)) (round binary64 false (m * up e * down d) (n * up d * down e)) ≡ round binary64 false A B
+    go true z = absurd (lt-irrefl 0 (subst (λ (w : ℕ). 0 < w) (z tt) N))
+    go false z =
+        round-same binary64 false (m * up e * down d) (n * up d * down e) A B (mul-pos (mul-pos N (up-pos d)) (down-pos e)) b
+        (over (m * up e) (n * up d) (down e) (down d) (2 ^ 1074) (pow-pos 1074) (p .1) (q .1))
+
+-- ---- every finite value that binary64 holds: m * 2 ^ j units, m of 53 digits
+pub record Number (x : Float) : Type 0 where
+  pub sign : Bool
+  pub m : ℕ
+  pub j : ℕ
+  pub few : m < 2 ^ 53
+  pub under : m * 2 ^ j < 2 ^ 2098
+  pub val : Valued x sign (m * 2 ^ j)
+  pub is : exact x ≡ signed sign (m * 2 ^ j)
+
+exponent : (e : ℤ) (l : ℕ) → down e ≤ 2 ^ l → (j : ℕ) × (up e * 2 ^ l ≡ 2 ^ j * down e)
+exponent (pos k) l h = (k + l, sym (pow-add 2 k l) ∙ sym (mul-one (2 ^ (k + l))))
+exponent (negsuc k) l h = (l - suc k, one-mul (2 ^ l) ∙ sym (sym (pow-add 2 (l - suc k) (suc k)) ∙ ap (λ (x : ℕ). 2 ^ x) (sub-add-cancel within)))
+  where
+    within : suc k ≤ l
+    within = let g : ¬ (l < suc k) = λ (g : l < suc k). not-le-of-lt (pow-lt g) h in omega arith
+
+pub number : (x : Float) → T (finite x) → T (fits binary64 x) → Number x
+unfolding fits
+number nan t h = absurd t
+number (inf s) t h = absurd t
+number (fin s zero e) t h = record {
+  sign = s;
+  m = 0;
+  j = 0;
+  few = lit< tt;
+  under = lit< tt;
+  val = (refl, ap (λ (z : ℕ). z * 2 ^ 1074) (zero-mul (up e)) ∙ sym (zero-mul (down e)));
+  is = ap (λ (z : ℕ). signed s (z * 2 ^ 1074 / down e)) (zero-mul (up e)) ∙ ap (signed s) (zero-div (down e));
+}
+number (fin s (suc m) e) t h =
+    let a : Bool = eqb (suc m % 2) 1 in
+    let b : Bool = ltb (suc m) (2 ^ 53) in
+    let c : Bool = leb (down e) (2 ^ 1074) in
+    let d : Bool = ltb (suc m * up e) (2 ^ 1024 * down e) in
+    let x = exponent e 1074 (leb→le (down e) (2 ^ 1074) (and-r (a && b) c (and-l (a && b && c) d h))) in
+    let v : suc m * up e * 2 ^ 1074 ≡ suc m * 2 ^ (x .0) * down e = whole (suc m) (up e) (2 ^ 1074) (2 ^ (x .0)) (x .1) in
+    record {
+      sign = s;
+      m = suc m;
+      j = x .0;
+      few = ltb→lt (suc m) (2 ^ 53) (and-r a b (and-l (a && b) c (and-l (a && b && c) d h)));
+      under = below (suc m * up e) (2 ^ 1074) (2 ^ 1024) (suc m * 2 ^ (x .0)) (pow-pos 1074) v (ltb→lt (suc m * up e) (2 ^ 1024 * down e) (and-r (a && b && c) d h));
+      val = (refl, v);
+      is = ap (λ (z : ℕ). signed s (z / down e)) v ∙ ap (signed s) (mul-div-cancel (suc m * 2 ^ (x .0)) (down-pos e));
+    }
+  where
+    whole : (m u L r : ℕ) → u * L ≡ r * down e → m * u * L ≡ m * r * down e
+    whole m u L r h = mul-assoc m u L ∙ ap (λ (z : ℕ). m * z) h ∙ sym (mul-assoc m r (down e))
+
+    below : (x L M W : ℕ) → 0 < L → x * L ≡ W * down e → x < M * down e → W < M * L
+    below x L M W P h l = lt-of-mul-lt-mul-right (down e) (lt-of-le-of-lt (le-of-eq (sym h)) (lt-of-lt-of-le (mul-lt-mul-of-pos-right l P) (le-of-eq (mul-right-comm M (down e) L))))
+
+-- its size
+pub abs-signed : (s : Bool) (A : ℕ) → natAbs (signed s A) ≡ A
+abs-signed true A = abs-neg (pos A)
+abs-signed false A = refl
+
+-- a value has one size in units
+pub one-value : (x : Float) (s t : Bool) (A B : ℕ) → Valued x s A → Valued x t B → A ≡ B
+one-value nan s t A B p q = absurd p
+one-value (inf r) s t A B p q = absurd p
+one-value (fin r m e) s t A B p q = eq-of-mul-eq-mul-right (down e) (down-pos e) A B (sym (p .1) ∙ q .1)
