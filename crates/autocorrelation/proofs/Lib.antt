@@ -2,3 +2,4 @@ pub mod Close
 pub mod Rounding
 pub mod Units
 pub mod SumLaws
+pub mod Accuracy

@@ -3,7 +3,7 @@
 use mathlib.Core.Path.{_≡_, refl, sym, ap, _∙_, subst}
 use mathlib.Core.Logic.{_⊎_, inl, inr}
 use Prim.Native.Nat.{ℕ, suc, _+_, _-_, _*_, _/_, _%_, _^_, _≤_, _<_, compare, Ordering, Ordering·lt, Ordering·eq, Ordering·gt}
-use native.Mathlib.Nat.{le-trans, le-of-eq, lt-of-lt-of-le, lt-of-le-of-lt, lt-of-not-le, not-le-of-lt, mul-comm, mul-assoc, mul-one, mul-le-mul-right, mul-lt-mul-of-pos-right, mul-pos, div-add-mod', mod-lt, le-div-iff-mul-le}
+use native.Mathlib.Nat.{le-trans, le-of-eq, lt-of-lt-of-le, lt-of-le-of-lt, lt-of-not-le, not-le-of-lt, mul-comm, mul-assoc, mul-one, zero-mul, mul-le-mul-right, mul-lt-mul-of-pos-right, mul-pos, div-add-mod', mod-lt, le-div-iff-mul-le}
 use native.Mathlib.Omega.{arith}
 use mathlib.Core.Bool.{Bool, true, false, not}
 use lib.Dec.{T, isLe, isEq, eqb, leb, leb→le, nleb→lt, eqb→eq, eqb-refl, lit≤, lit<}
@@ -13,10 +13,10 @@ use lib.Ieee.{Float, binary64, nearest, size, round}
 use lib.Ieee.Digits.{size-lt, size-reaches}
 use lib.Ieee.Nearest.{closest, nearest-ge}
 use lib.Ieee.Order.{drop, kept}
-use lib.Ieee.Scale.{grid}
+use lib.Ieee.Scale.{grid, round-same}
 use lib.Ieee.Fits.{round-is}
 use lib.Ieee.Exact.{HasValue, units-val, round-exact}
-use Rattle.autocorrelation.proofs.Close.{Close, close-refl, close-more, close-over, close-double}
+use Rattle.autocorrelation.proofs.Close.{Close, close-refl, close-more, close-times, close-over, close-double}
 
 -- x is finite, with the sign s, and a units in size
 abbrev pub Valued : Float → Bool → ℕ → Type 0
@@ -86,7 +86,7 @@ round-units s a c h =
     subst (λ (z : Float). Valued z s (grid binary64 a c)) (sym (round-is binary64 s a c)) (units-val binary64 s (kept 53 (a * 2 ^ 1074) c) (drop 53 (a * 2 ^ 1074) c) h)
 
 -- a normal fraction a / c
-pub round-normal : (s : Bool) (a c : ℕ) → 0 < c → 2 ^ 52 * c ≤ a * 2 ^ 1074 → a * 2 ^ 1074 < 2 ^ 2097 * c → (g : ℕ) × Valued (round binary64 s a c) s g × Close 1 (g * c) (a * 2 ^ 1074)
+round-normal : (s : Bool) (a c : ℕ) → 0 < c → 2 ^ 52 * c ≤ a * 2 ^ 1074 → a * 2 ^ 1074 < 2 ^ 2097 * c → (g : ℕ) × Valued (round binary64 s a c) s g × Close 1 (g * c) (a * 2 ^ 1074)
 round-normal s a c C h l =
     let near : Close 1 (grid binary64 a c * c) (a * 2 ^ 1074) = normal-close (a * 2 ^ 1074) c C h in
     (grid binary64 a c, round-units s a c (under (grid binary64 a c) (a * 2 ^ 1074) (2 ^ 2097) (close-double (lit≤ tt) near) l), near)
@@ -107,3 +107,11 @@ round-whole s W h = go (leb (2 ^ 53) W) (leb→le (2 ^ 53) W) (nleb→lt (2 ^ 53
       round-exact binary64 s W (2 ^ 1074) W 0 (pow-pos 1074) (g tt) (lt-of-le-of-lt (le-of-eq (mul-one W)) (lt-of-lt-of-le (g tt) (lit≤ tt))) (ap (λ (z : ℕ). z * 2 ^ 1074) (sym (mul-one W))),
       close-more (lit≤ tt) close-refl,
     )
+
+-- a fraction a / c that is 0 or normal
+pub round-fine : (s : Bool) (a c : ℕ) → 0 < c → (a ≡ 0) ⊎ (2 ^ 52 * c ≤ a * 2 ^ 1074) → a * 2 ^ 1074 < 2 ^ 2097 * c → (g : ℕ) × Valued (round binary64 s a c) s g × Close 1 (g * c) (a * 2 ^ 1074)
+round-fine s a c C (inl z) h =
+    let r = round-whole s 0 (lit< tt) in
+    let n : a * 2 ^ 1074 ≡ 0 * c = ap (λ (i : ℕ). i * 2 ^ 1074) z ∙ sym (zero-mul c) in
+    (r .0, rw (round-same binary64 s a c 0 (2 ^ 1074) C (pow-pos 1074) n) (r .1), rw n (close-times c (r .2)))
+round-fine s a c C (inr l) h = round-normal s a c C l h

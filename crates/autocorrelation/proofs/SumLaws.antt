@@ -16,7 +16,7 @@ use Rattle.floats.specs.Sums.{sumOf}
 use Rattle.autocorrelation.specs.Bound.{exactSum}
 use Rattle.autocorrelation.proofs.Close.{Close, close-add, close-more, close-times, close-trans, close-double}
 use Rattle.autocorrelation.proofs.Rounding.{Valued, round-whole}
-use Rattle.autocorrelation.proofs.Units.{plus-is, start-is, Number, number, one-value}
+use Rattle.autocorrelation.proofs.Units.{plus-is, start-is, Number, number, size-is, valued-finite}
 
 -- x is g units and not negative, and within k roundings of X, which counts units of 2^-2148
 pub record Term (k : ℕ) (x : Float) (X : ℕ) : Type 0 where
@@ -24,17 +24,12 @@ pub record Term (k : ℕ) (x : Float) (X : ℕ) : Type 0 where
   pub val : Valued x false g
   pub near : Close k (g * 2 ^ 1074) X
 
-pub valued-finite : (x : Float) (s : Bool) (A : ℕ) → Valued x s A → T (finite x)
-valued-finite nan s A v = v
-valued-finite (inf r) s A v = v
-valued-finite (fin r m e) s A v = tt
-
 -- ---- the first term, and one more
 
 first : (k : ℕ) (x : Float) (X : ℕ) → T (fits binary64 x) → Term k x X → Term k (minusZero ⊕ x) X
 first k x X h a =
     let u = number x (valued-finite x false (a .g) (a .val)) h in
-    let is : a .g ≡ u .m * 2 ^ (u .j) = one-value x false (u .sign) (a .g) (u .m * 2 ^ (u .j)) (a .val) (u .val) in
+    let is : a .g ≡ u .m * 2 ^ (u .j) = sym (size-is x false (a .g) (a .val)) ∙ size-is x (u .sign) (u .m * 2 ^ (u .j)) (u .val) in
     record {
       g = a .g;
       val =
@@ -55,14 +50,14 @@ next k m s x S X h K B a b =
 
 -- THE SUM
 module _ (m : ℕ) (term : ℕ → Float) (X : ℕ → ℕ) (held : T (fits binary64 (term 0))) where
-  pub sum-close : (k : ℕ) → m + k ≤ 2 ^ 52 → exactSum (suc k) X ≤ 2 ^ 2700 → ((t : ℕ) → t ≤ k → Term m (term t) (X t)) → Term (m + k) (sumOf (suc k) term) (exactSum (suc k) X)
+  pub sum-close : (k : ℕ) → m + k ≤ 2 ^ 52 → exactSum (suc k) X ≤ 2 ^ 2700 → ((t : ℕ) → t < suc k → Term m (term t) (X t)) → Term (m + k) (sumOf (suc k) term) (exactSum (suc k) X)
   unfolding sumOf exactSum
-  sum-close zero h B each = rw (add-zero m, zero-add (X 0)) (first m (term 0) (X 0) held (each 0 (le-refl 0)))
+  sum-close zero h B each = rw (add-zero m, zero-add (X 0)) (first m (term 0) (X 0) held (each 0 (le-refl 1)))
   sum-close (suc k) h B each =
       rw (add-suc m k)
       (next (m + k) m (sumOf (suc k) term) (term (suc k)) (exactSum (suc k) X) (X (suc k)) (le-add-right m k) (omega arith) B
-      (sum-close k (omega arith) (le-trans (le-add-right (exactSum (suc k) X) (X (suc k))) B) (λ (t : ℕ) (g : t ≤ k). each t (le-step g)))
-      (each (suc k) (le-refl (suc k))))
+      (sum-close k (omega arith) (le-trans (le-add-right (exactSum (suc k) X) (X (suc k))) B) (λ (t : ℕ) (g : t < suc k). each t (le-step g)))
+      (each (suc k) (le-refl (suc (suc k)))))
 
 -- ---- an exact sum of n numbers that are 0, or from lo to hi
 pub record Among (lo hi X : ℕ) : Type 0 where

@@ -8,13 +8,13 @@ use mathlib.Core.Bool.{Bool, true, false, not, _&&_, Bool·beq, cond, true≢fal
 use lib.IntN.{ℤ, pos, negsuc, negℤ, natAbs, _+ℤ_, _-ℤ_, subℕ, negℤ-negℤ, negℤ-+ℤ, +ℤ-comm}
 use lib.Dec.{T, ltb, leb, eqb, ltb→lt, leb→le, nltb→le, eqb→eq, lit<}
 use lib.Pow.{pow-add, pow-pos, pow-lt}
-use borrow.Author.Tests.{lt-ltb, le-ltb}
-use lib.Ieee.{Float, nan, inf, fin, binary64, up, down, unlike, round, sum, add, sub, mul, div, neg, fits, ofBits}
+use borrow.Author.Tests.{eq-eqb, lt-ltb, le-ltb}
+use lib.Ieee.{Float, nan, inf, fin, binary64, up, down, unlike, round, sum, add, sub, mul, div, neg, eq, fits, ofBits}
 use lib.Ieee.Fits.{up-pos, down-pos, and-l, and-r}
 use lib.Ieee.Exact.{HasValue}
 use lib.Ieee.Scale.{round-same, finite}
 use lib.Ieee.Positive.{first-pos}
-use Rattle.floats.specs.Words.{_⊕_, _⊖_, _⊗_, _⊘_, minusZero}
+use Rattle.floats.specs.Words.{_⊕_, _⊖_, _⊗_, _⊘_, plusZero, minusZero}
 use Rattle.autocorrelation.specs.Bound.{signed, exact}
 use Rattle.autocorrelation.proofs.Rounding.{Valued}
 
@@ -158,7 +158,6 @@ pub record Number (x : Float) : Type 0 where
   pub few : m < 2 ^ 53
   pub under : m * 2 ^ j < 2 ^ 2098
   pub val : Valued x sign (m * 2 ^ j)
-  pub is : exact x ≡ signed sign (m * 2 ^ j)
 
 exponent : (e : ℤ) (l : ℕ) → down e ≤ 2 ^ l → (j : ℕ) × (up e * 2 ^ l ≡ 2 ^ j * down e)
 exponent (pos k) l h = (k + l, sym (pow-add 2 k l) ∙ sym (mul-one (2 ^ (k + l))))
@@ -178,7 +177,6 @@ number (fin s zero e) t h = record {
   few = lit< tt;
   under = lit< tt;
   val = (refl, ap (λ (z : ℕ). z * 2 ^ 1074) (zero-mul (up e)) ∙ sym (zero-mul (down e)));
-  is = ap (λ (z : ℕ). signed s (z * 2 ^ 1074 / down e)) (zero-mul (up e)) ∙ ap (signed s) (zero-div (down e));
 }
 number (fin s (suc m) e) t h =
     let a : Bool = eqb (suc m % 2) 1 in
@@ -194,7 +192,6 @@ number (fin s (suc m) e) t h =
       few = ltb→lt (suc m) (2 ^ 53) (and-r a b (and-l (a && b) c (and-l (a && b && c) d h)));
       under = below (suc m * up e) (2 ^ 1074) (2 ^ 1024) (suc m * 2 ^ (x .0)) (pow-pos 1074) v (ltb→lt (suc m * up e) (2 ^ 1024 * down e) (and-r (a && b && c) d h));
       val = (refl, v);
-      is = ap (λ (z : ℕ). signed s (z / down e)) v ∙ ap (signed s) (mul-div-cancel (suc m * 2 ^ (x .0)) (down-pos e));
     }
   where
     whole : (m u L r : ℕ) → u * L ≡ r * down e → m * u * L ≡ m * r * down e
@@ -203,13 +200,27 @@ number (fin s (suc m) e) t h =
     below : (x L M W : ℕ) → 0 < L → x * L ≡ W * down e → x < M * down e → W < M * L
     below x L M W P h l = lt-of-mul-lt-mul-right (down e) (lt-of-le-of-lt (le-of-eq (sym h)) (lt-of-lt-of-le (mul-lt-mul-of-pos-right l P) (le-of-eq (mul-right-comm M (down e) L))))
 
--- its size
-pub abs-signed : (s : Bool) (A : ℕ) → natAbs (signed s A) ≡ A
-abs-signed true A = abs-neg (pos A)
-abs-signed false A = refl
+-- ---- a value tells its units
 
--- a value has one size in units
-pub one-value : (x : Float) (s t : Bool) (A B : ℕ) → Valued x s A → Valued x t B → A ≡ B
-one-value nan s t A B p q = absurd p
-one-value (inf r) s t A B p q = absurd p
-one-value (fin r m e) s t A B p q = eq-of-mul-eq-mul-right (down e) (down-pos e) A B (sym (p .1) ∙ q .1)
+pub exact-is : (x : Float) (s : Bool) (A : ℕ) → Valued x s A → exact x ≡ signed s A
+exact-is nan s A v = absurd v
+exact-is (inf r) s A v = absurd v
+exact-is (fin r m e) s A v = ap (λ (z : ℕ). signed r (z / down e)) (v .1) ∙ ap (signed r) (mul-div-cancel A (down-pos e)) ∙ ap (λ (z : Bool). signed z A) (v .0)
+
+pub size-is : (x : Float) (s : Bool) (A : ℕ) → Valued x s A → natAbs (exact x) ≡ A
+size-is x s A v = ap natAbs (exact-is x s A v) ∙ abs-signed s
+  where
+    abs-signed : (s : Bool) → natAbs (signed s A) ≡ A
+    abs-signed true = abs-neg (pos A)
+    abs-signed false = refl
+
+pub valued-finite : (x : Float) (s : Bool) (A : ℕ) → Valued x s A → T (finite x)
+valued-finite nan s A v = v
+valued-finite (inf r) s A v = v
+valued-finite (fin r m e) s A v = tt
+
+pub none-is : (x : Float) → Valued x false 0 → eq x plusZero ≡ true
+unfolding eq ofBits
+none-is nan v = absurd v
+none-is (inf r) v = absurd v
+none-is (fin r m e) v = rw (v .0, zero-mul (down e), eq-eqb (m * up e * 1) 0 (mul-one (m * up e) ∙ eq-of-mul-eq-mul-right (2 ^ 1074) (pow-pos 1074) (m * up e) 0 (v .1 ∙ zero-mul (down e))))
