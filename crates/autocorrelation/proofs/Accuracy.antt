@@ -3,7 +3,7 @@
 use mathlib.Core.Path.{_≡_, refl, sym, ap, _∙_, subst}
 use mathlib.Core.Logic.{_⊎_, inl, inr}
 use Prim.Native.Nat.{ℕ, zero, suc, _+_, _-_, _*_, _^_, _≤_, _<_}
-use native.Mathlib.Nat.{le-refl, le-trans, le-of-eq, lt-of-le-of-lt, lt-of-lt-of-le, lt-irrefl, eq-zero-or-pos, zero-mul, mul-comm, mul-assoc, mul-right-comm, mul-le-mul, mul-le-mul-left, mul-le-mul-right, mul-lt-mul-of-pos-right, mul-pos, le-of-mul-le-mul-right, eq-of-mul-eq-mul-right}
+use native.Mathlib.Nat.{not-suc-le-zero, le-of-suc-le-suc, le-refl, le-trans, le-of-eq, lt-of-le-of-lt, lt-of-lt-of-le, lt-irrefl, eq-zero-or-pos, zero-mul, mul-comm, mul-assoc, mul-right-comm, mul-le-mul, mul-le-mul-left, mul-le-mul-right, mul-lt-mul-of-pos-right, mul-pos, le-of-mul-le-mul-right, eq-of-mul-eq-mul-right}
 use native.Mathlib.Omega.{arith}
 use mathlib.Core.Bool.{Bool, true, false, true≢false}
 use mathlib.Core.List.{List}
@@ -152,3 +152,13 @@ module _ (lo hi : ℕ) (w : Window lo hi) where
         let q = quotient-term (3 + k) (1 + suc k) (sumOf (suc k) (λ t. squareOf (e ‼ (t + 1) ⊖ e ‼ t))) (sumOf (suc (suc k)) (λ t. squareOf (e ‼ t))) SD SS (omega arith) (omega arith) over under above below (some h) in
         let c : Close (2 * suc (suc k) + 2) (q .0 * SS) (SD * 2 ^ 1074) = subst (λ (i : ℕ). Close i (q .0 * SS) (SD * 2 ^ 1074)) (omega arith) (q .2) in
         record { isFinite = valued-finite d false (q .0) (q .1); divisor = some h; error = rw (exact-is d false (q .0) (q .1), abs-minus (q .0 * SS) (SD * 2 ^ 1074)) (close-bound K c) }
+
+  -- of n numbers
+  pub accurate : (e : List Float) (n : ℕ) → 2 ≤ n → n ≤ 256 → ((t : ℕ) → t < n → Number (e ‼ t)) → ((t : ℕ) → t < n → Among lo hi (natAbs (exact (e ‼ t))))
+      → ((t : ℕ) → t < n - 1 → Among lo hi (natAbs (exactDifference e t))) → eq (sumOf n (λ t. squareOf (e ‼ t))) plusZero ≡ false
+      → Accurate n (sumOf (n - 1) (λ t. squareOf (e ‼ (t + 1) ⊖ e ‼ t)) ⊘ sumOf n (λ t. squareOf (e ‼ t))) (exactSum (n - 1) (λ t. squared (exactDifference e t))) (exactSum n (λ t. squared (exact (e ‼ t))))
+  accurate e zero a b numbers sized apart h = absurd (not-suc-le-zero a)
+  accurate e (suc zero) a b numbers sized apart h = absurd (not-suc-le-zero (le-of-suc-le-suc a))
+  accurate e (suc (suc k)) a b numbers sized apart h =
+      let c : suc (suc k) - 1 ≡ suc k = omega arith in
+      rw c (counted e k b numbers sized (λ (t : ℕ) (g : t < suc k). apart t (omega arith)) h)

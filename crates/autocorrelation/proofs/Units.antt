@@ -85,20 +85,27 @@ abs-minus A (suc b) = go (ltb A (suc b)) (ltb→lt A (suc b)) (nltb→le A (suc 
     go true h g = omega (arith, h tt)
     go false h g = omega (arith, g tt)
 
--- one less the other, rounded, with one sign or the other
-apart : (A B : ℕ) (r w : Bool) (Z : ℕ) → Z ≡ A - B + (B - A) → (k : Bool) × (cond (ltb A B) (round binary64 r (B - A) (2 ^ 1074)) (round binary64 w (A - B) (2 ^ 1074)) ≡ round binary64 k Z (2 ^ 1074))
-apart A B r w Z z = go (ltb A B) (ltb→lt A B) (nltb→le A B)
+-- of two numbers with signs: the sizes add up where the signs differ
+pub size-apart : (s t : Bool) (A B : ℕ) → natAbs (signed s A -ℤ signed t B) ≡ cond (Bool·beq s t) (A - B + (B - A)) (A + B)
+size-apart false false A B = abs-minus A B
+size-apart true true A B = ap natAbs (sym (negℤ-+ℤ (pos A) (negℤ (pos B)))) ∙ abs-neg (pos A -ℤ pos B) ∙ abs-minus A B
+size-apart false true A B = ap (λ (z : ℤ). natAbs (pos A +ℤ z)) (negℤ-negℤ (pos B))
+size-apart true false A B = ap natAbs (sym (negℤ-+ℤ (pos A) (pos B))) ∙ abs-neg (pos (A + B))
+
+-- one less the other, with one sign or the other
+apart : (A B : ℕ) (r w : Bool) → (k : Bool) × (cond (ltb A B) (round binary64 r (B - A) (2 ^ 1074)) (round binary64 w (A - B) (2 ^ 1074)) ≡ round binary64 k (A - B + (B - A)) (2 ^ 1074))
+apart A B r w = go (ltb A B) (ltb→lt A B) (nltb→le A B)
   where
-    go : (t : Bool) → (T t → A < B) → (T (not t) → B ≤ A) → (k : Bool) × (cond t (round binary64 r (B - A) (2 ^ 1074)) (round binary64 w (A - B) (2 ^ 1074)) ≡ round binary64 k Z (2 ^ 1074))
+    go : (t : Bool) → (T t → A < B) → (T (not t) → B ≤ A) → (k : Bool) × (cond t (round binary64 r (B - A) (2 ^ 1074)) (round binary64 w (A - B) (2 ^ 1074)) ≡ round binary64 k (A - B + (B - A)) (2 ^ 1074))
     go true h g = (r, ap (λ (n : ℕ). round binary64 r n (2 ^ 1074)) (omega (arith, h tt)))
     go false h g = (w, ap (λ (n : ℕ). round binary64 w n (2 ^ 1074)) (omega (arith, g tt)))
 
-difference : (s t : Bool) (A B : ℕ) → (k : Bool) × (sum binary64 s A (not t) B (2 ^ 1074) ≡ round binary64 k (natAbs (signed s A -ℤ signed t B)) (2 ^ 1074))
+difference : (s t : Bool) (A B : ℕ) → (k : Bool) × (sum binary64 s A (not t) B (2 ^ 1074) ≡ round binary64 k (cond (Bool·beq s t) (A - B + (B - A)) (A + B)) (2 ^ 1074))
 unfolding sum
-difference false false A B = apart A B true false (natAbs (pos A -ℤ pos B)) (abs-minus A B)
-difference true true A B = apart A B false (ltb B A) (natAbs (negℤ (pos A) -ℤ negℤ (pos B))) (ap natAbs (sym (negℤ-+ℤ (pos A) (negℤ (pos B)))) ∙ abs-neg (pos A -ℤ pos B) ∙ abs-minus A B)
-difference false true A B = (false, ap (λ (z : ℤ). round binary64 false (natAbs (pos A +ℤ z)) (2 ^ 1074)) (sym (negℤ-negℤ (pos B))))
-difference true false A B = (true, ap (λ (n : ℕ). round binary64 true n (2 ^ 1074)) (sym (ap natAbs (sym (negℤ-+ℤ (pos A) (pos B))) ∙ abs-neg (pos (A + B)))))
+difference false false A B = apart A B true false
+difference true true A B = apart A B false (ltb B A)
+difference false true A B = (false, refl)
+difference true false A B = (true, refl)
 
 pub minus-is : (x y : Float) (s t : Bool) (A B : ℕ) → Valued x s A → Valued y t B → (k : Bool) × (x ⊖ y ≡ round binary64 k (natAbs (signed s A -ℤ signed t B)) (2 ^ 1074))
 unfolding sub neg
@@ -106,7 +113,7 @@ minus-is x nan s t A B p q = absurd q
 minus-is x (inf w) s t A B p q = absurd q
 minus-is x (fin w n d) s t A B p q =
     let z = difference s t A B in
-    (z .0, add-is x (fin (not w) n d) s (not t) A B p (ap not (q .0), q .1) ∙ z .1)
+    (z .0, rw (size-apart s t A B) (add-is x (fin (not w) n d) s (not t) A B p (ap not (q .0), q .1) ∙ z .1))
 
 -- ---- squares and quotients
 like : (s : Bool) → unlike s s ≡ false

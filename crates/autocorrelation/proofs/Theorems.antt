@@ -1,0 +1,88 @@
+-- The theorems about the statistic. Each bound is shown of the definition and then of the operation's own answer. Assumes nothing.
+use mathlib.Core.Path.{_≡_, subst}
+use Prim.Native.Nat.{ℕ, _+_, _-_, _*_, _^_, _≤_, _<_}
+use native.Mathlib.Omega.{arith}
+use mathlib.Core.Bool.{Bool, true, false}
+use mathlib.Core.List.{List}
+use lib.Dec.{T, lit≤, lit<}
+use lib.ListN.{length}
+use lib.IntN.{natAbs}
+use lib.Ieee.{Float, binary64, eq, fits}
+use Rattle.floats.specs.Words.{_‼_, plusZero}
+use Rattle.floats.specs.Search.{firstBad}
+use Rattle.floats.specs.declared.search.Found.the-variants.{Nothing}
+use Rattle.autocorrelation.specs.declared.Statistic.the-variants.{Value}
+use Rattle.autocorrelation.specs.Statistic.{squares, durbinWatson, durbinWatsonAnswer}
+use Rattle.autocorrelation.specs.Bound.{exact, exactDifference, exactSquares, exactDifferences, Accurate, sized?, held?, numbersSized?, differencesSized?}
+use Rattle.autocorrelation.proofs.Units.{Number, number}
+use Rattle.autocorrelation.proofs.SumLaws.{Among}
+use Rattle.autocorrelation.proofs.Accuracy.{Window, accurate}
+use Rattle.autocorrelation.proofs.Rules.{all-at, among, wider, all-finite, accepted, apart}
+
+-- ---- the two windows: 2^-250 to 2^250, and 2^-272 to 2^221
+inner : Window (2 ^ 824) (2 ^ 1324)
+inner = record {
+  half = 2 ^ 823;
+  top = 2 ^ 1583;
+  bottom = 2 ^ 573;
+  halves = lit≤ tt;
+  normal = lit≤ tt;
+  under = lit< tt;
+  short = lit< tt;
+  total = lit≤ tt;
+  above = lit≤ tt;
+  fine = lit≤ tt;
+  below = lit≤ tt;
+  room = lit< tt;
+  some = lit< tt;
+}
+
+outer : Window (2 ^ 802) (2 ^ 1295)
+outer = record {
+  half = 2 ^ 801;
+  top = 2 ^ 1525;
+  bottom = 2 ^ 529;
+  halves = lit≤ tt;
+  normal = lit≤ tt;
+  under = lit< tt;
+  short = lit< tt;
+  total = lit≤ tt;
+  above = lit≤ tt;
+  fine = lit≤ tt;
+  below = lit≤ tt;
+  room = lit< tt;
+  some = lit< tt;
+}
+
+numbers : (e : List Float) → T (held? e) → firstBad e ≡ Nothing → (t : ℕ) → t < length e → Number (e ‼ t)
+numbers e h f t g = number (e ‼ t) (all-finite e f t g) (all-at (length e) (λ t. fits binary64 (e ‼ t)) t h g)
+
+-- ---- THE BOUND, where every number and every exact difference of neighbours is 0 or from 2^-250 to 2^250 in size
+pub statistic-accurate : (e : List Float) → 2 ≤ length e → length e ≤ 256 → T (held? e) → firstBad e ≡ Nothing → eq (squares e) plusZero ≡ false
+    → T (numbersSized? 250 e) → T (differencesSized? 250 e) → Accurate (length e) (durbinWatson e) (exactDifferences e) (exactSquares e)
+statistic-accurate e a b h f s p q =
+    accurate (2 ^ 824) (2 ^ 1324) inner e (length e) a b (numbers e h f)
+    (λ (t : ℕ) (g : t < length e). among 250 (exact (e ‼ t)) (all-at (length e) (λ t. sized? 250 (exact (e ‼ t))) t p g))
+    (λ (t : ℕ) (g : t < length e - 1). among 250 (exactDifference e t) (all-at (length e - 1) (λ t. sized? 250 (exactDifference e t)) t q g)) s
+
+pub answer-accurate : (e : List Float) (d : Float) → durbinWatsonAnswer e ≡ Value d → length e ≤ 256 → T (held? e)
+    → T (numbersSized? 250 e) → T (differencesSized? 250 e) → Accurate (length e) d (exactDifferences e) (exactSquares e)
+answer-accurate e d v b h p q =
+    let r = accepted e d v in
+    subst (λ (x : Float). Accurate (length e) x (exactDifferences e) (exactSquares e)) (r .is) (statistic-accurate e (r .many) b h (r .numbers) (r .some) p q)
+
+-- ---- the same with no rule on differences, where every number is 0 or from 2^-220 to 2^220 in size
+pub statistic-accurate-220 : (e : List Float) → 2 ≤ length e → length e ≤ 256 → T (held? e) → firstBad e ≡ Nothing → eq (squares e) plusZero ≡ false
+    → T (numbersSized? 220 e) → Accurate (length e) (durbinWatson e) (exactDifferences e) (exactSquares e)
+statistic-accurate-220 e a b h f s p =
+    accurate (2 ^ 802) (2 ^ 1295) outer e (length e) a b (numbers e h f) (λ (t : ℕ) (g : t < length e). wider (lit≤ tt) (lit≤ tt) (size t g))
+    (λ (t : ℕ) (g : t < length e - 1). apart (e ‼ t) (e ‼ (t + 1)) (numbers e h f t (omega arith)) (numbers e h f (t + 1) (omega arith)) (size t (omega arith)) (size (t + 1) (omega arith))) s
+  where
+    size : (t : ℕ) → t < length e → Among (2 ^ 854) (2 ^ 1294) (natAbs (exact (e ‼ t)))
+    size t g = among 220 (exact (e ‼ t)) (all-at (length e) (λ t. sized? 220 (exact (e ‼ t))) t p g)
+
+pub answer-accurate-220 : (e : List Float) (d : Float) → durbinWatsonAnswer e ≡ Value d → length e ≤ 256 → T (held? e)
+    → T (numbersSized? 220 e) → Accurate (length e) d (exactDifferences e) (exactSquares e)
+answer-accurate-220 e d v b h p =
+    let r = accepted e d v in
+    subst (λ (x : Float). Accurate (length e) x (exactDifferences e) (exactSquares e)) (r .is) (statistic-accurate-220 e (r .many) b h (r .numbers) (r .some) p)
