@@ -4,4 +4,6 @@ pub mod Units
 pub mod SumLaws
 pub mod Accuracy
 pub mod Rules
+pub mod Powers
+pub mod Range
 pub mod Theorems

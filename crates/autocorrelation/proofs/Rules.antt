@@ -122,7 +122,7 @@ least : (v step a : ℕ) → a ≡ v * step → (a ≡ 0) ⊎ (step ≤ a)
 least zero step a e = inl (e ∙ zero-mul step)
 least (suc v) step a e = inr (omega arith)
 
-most : (b : Bool) (A B H : ℕ) → A ≤ H → B ≤ H → cond b (A - B + (B - A)) (A + B) ≤ H * 2
+pub most : (b : Bool) (A B H : ℕ) → A ≤ H → B ≤ H → cond b (A - B + (B - A)) (A + B) ≤ H * 2
 most true A B H h g = omega arith
 most false A B H h g = omega arith
 

@@ -1,22 +1,27 @@
 -- The theorems about the statistic. Each bound is shown of the definition and then of the operation's own answer. Assumes nothing.
-use mathlib.Core.Path.{_≡_, subst}
-use Prim.Native.Nat.{ℕ, _+_, _-_, _*_, _^_, _≤_, _<_}
+use mathlib.Core.Path.{_≡_, refl, subst}
+use Prim.Native.Nat.{ℕ, _+_, _-_, _*_, _^_, _≤_, _<_, zero-le}
 use native.Mathlib.Omega.{arith}
 use mathlib.Core.Bool.{Bool, true, false}
 use mathlib.Core.List.{List}
 use lib.Dec.{T, lit≤, lit<}
 use lib.ListN.{length}
 use lib.IntN.{natAbs}
-use lib.Ieee.{Float, binary64, eq, fits}
+use lib.Pow.{pow-pos}
+use lib.Ieee.{Float, binary64, eq, le, fits, ofBits}
+use lib.Ieee.Exact.{HasValue}
+use lib.Ieee.Order.{le-of-values}
+use lib.Ieee.Scale.{finite}
 use Rattle.floats.specs.Words.{_‼_, plusZero}
 use Rattle.floats.specs.Search.{firstBad}
 use Rattle.floats.specs.declared.search.Found.the-variants.{Nothing}
 use Rattle.autocorrelation.specs.declared.Statistic.the-variants.{Value}
 use Rattle.autocorrelation.specs.Statistic.{squares, durbinWatson, durbinWatsonAnswer}
 use Rattle.autocorrelation.specs.Bound.{exact, exactDifference, exactSquares, exactDifferences, Accurate, sized?, held?, numbersSized?, differencesSized?}
-use Rattle.autocorrelation.proofs.Units.{Number, number}
+use Rattle.autocorrelation.proofs.Units.{Number, number, valued-finite}
 use Rattle.autocorrelation.proofs.SumLaws.{Among}
 use Rattle.autocorrelation.proofs.Accuracy.{Window, accurate}
+use Rattle.autocorrelation.proofs.Range.{in-range}
 use Rattle.autocorrelation.proofs.Rules.{all-at, among, wider, all-finite, accepted, apart}
 
 -- ---- the two windows: 2^-250 to 2^250, and 2^-272 to 2^221
@@ -86,3 +91,14 @@ pub answer-accurate-220 : (e : List Float) (d : Float) → durbinWatsonAnswer e 
 answer-accurate-220 e d v b h p =
     let r = accepted e d v in
     subst (λ (x : Float). Accurate (length e) x (exactDifferences e) (exactSquares e)) (r .is) (statistic-accurate-220 e (r .many) b h (r .numbers) (r .some) p)
+
+-- ---- an accepted statistic is finite and not negative
+pub answer-finite : (e : List Float) (d : Float) → durbinWatsonAnswer e ≡ Value d → T (held? e) → T (finite d) × T (le plusZero d)
+answer-finite e d v h =
+    let r = accepted e d v in
+    let q = in-range e (length e) (r .many) (numbers e h (r .numbers)) (r .above) (r .below) (r .some) in
+    subst (λ (x : Float). T (finite x) × T (le plusZero x)) (r .is)
+    (valued-finite (durbinWatson e) false (q .0) (q .1), le-of-values plusZero (durbinWatson e) 0 1 (q .0) (2 ^ 1074) (lit< tt) (pow-pos 1074) none (q .1) zero-le)
+  where
+    none : HasValue plusZero false 0 1
+    none = unfold ofBits in (refl, refl)
