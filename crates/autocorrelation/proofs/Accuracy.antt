@@ -15,11 +15,18 @@ use lib.Ieee.Scale.{round-same}
 use lib.Ieee.Fits.{mul-fits}
 use Rattle.floats.specs.Words.{_⊖_, _⊗_, _⊘_, _‼_, plusZero, squareOf}
 use Rattle.floats.specs.Sums.{sumOf}
-use Rattle.autocorrelation.specs.Bound.{exact, exactDifference, squared, exactSum, Accurate}
+use Rattle.autocorrelation.specs.Bound.{exact, exactDifference, squared, exactSum, Near, Accurate}
 use Rattle.autocorrelation.proofs.Close.{Close, close-refl, close-sym, close-trans, close-mul, close-over, close-double, close-zero, close-half, close-times, close-bound}
 use Rattle.autocorrelation.proofs.Rounding.{Valued, round-fine, round-whole}
 use Rattle.autocorrelation.proofs.Units.{minus-is, square-is, quotient-is, Number, exact-is, size-is, valued-finite, none-is, abs-minus}
 use Rattle.autocorrelation.proofs.SumLaws.{Term, sum-close, Among, sum-among}
+
+-- 2 n + 2 roundings
+near-bound : (n x X : ℕ) → n ≤ 256 → Close (2 * n + 2) x X → Near n (pos x) (pos X)
+near-bound n x X h c = let b = close-bound h c in off (b .0) (b .1)
+  where
+    off : x * 2 ^ 53 ≤ X * 2 ^ 53 + X * (2 * n + 4) → X * 2 ^ 53 ≤ x * 2 ^ 53 + X * (2 * n + 4) → Near n (pos x) (pos X)
+    off p q = rw (abs-minus x X) (omega (arith, mul-comm X n))
 
 -- what is asked of lo and hi, where every number and every exact difference is 0 or from lo to hi units in size: squares are normal and far from
 -- overflow, and so is the quotient of a sum of up to 256 of them by another
@@ -86,9 +93,11 @@ module _ (lo hi : ℕ) (w : Window lo hi) where
   quotient-term : (i j : ℕ) (x y : Float) (X Y : ℕ) → i ≤ 2 ^ 52 → j ≤ 2 ^ 52 → Term i x X → Term j y Y → Among (lo * lo) (2 ^ 8 * (hi * hi)) X → Among (lo * lo) (2 ^ 8 * (hi * hi)) Y → 0 < Y
       → (g : ℕ) × Valued (x ⊘ y) false g × Close (1 + i + j) (g * Y) (X * 2 ^ 1074)
   quotient-term i j x y X Y I J p q r s P =
-      let n = round-fine false (p .g) (q .g) some (fine (r .from)) short in
-      (n .0, rw (quotient-is x y (p .g) (q .g) (p .val) (q .val) some) (n .1),
-      close-over (q .g) some (regroup (n .0) (q .g) (2 ^ 1074) (close-mul (close-trans (n .2) (p .near)) (close-sym (q .near)))))
+      let n = round-fine false (p .g) (q .g) some (fine (r .from)) short in (
+        n .0,
+        rw (quotient-is x y (p .g) (q .g) (p .val) (q .val) some) (n .1),
+        close-over (q .g) some (regroup (n .0) (q .g) (2 ^ 1074) (close-mul (close-trans (n .2) (p .near)) (close-sym (q .near)))),
+      )
     where
       least : (Y ≡ 0) ⊎ (lo * lo ≤ Y) → lo * lo ≤ Y
       least (inl z) = absurd (lt-irrefl 0 (subst (λ (n : ℕ). 0 < n) z P))
@@ -142,16 +151,16 @@ module _ (lo hi : ℕ) (w : Window lo hi) where
         go (inr p) = p
 
     counted :
-      eq (sumOf (suc (suc k)) (λ t. squareOf (e ‼ t))) plusZero ≡ false
-      → Accurate (suc (suc k)) (sumOf (suc k) (λ t. squareOf (e ‼ (t + 1) ⊖ e ‼ t)) ⊘ sumOf (suc (suc k)) (λ t. squareOf (e ‼ t))) (exactSum (suc k) (λ t. squared (exactDifference e t)))
-          (exactSum (suc (suc k)) (λ t. squared (exact (e ‼ t))))
+        eq (sumOf (suc (suc k)) (λ t. squareOf (e ‼ t))) plusZero ≡ false
+        → Accurate (suc (suc k)) (sumOf (suc k) (λ t. squareOf (e ‼ (t + 1) ⊖ e ‼ t)) ⊘ sumOf (suc (suc k)) (λ t. squareOf (e ‼ t))) (exactSum (suc k) (λ t. squared (exactDifference e t)))
+        (exactSum (suc (suc k)) (λ t. squared (exact (e ‼ t))))
     counted h =
         let d = sumOf (suc k) (λ t. squareOf (e ‼ (t + 1) ⊖ e ‼ t)) ⊘ sumOf (suc (suc k)) (λ t. squareOf (e ‼ t)) in
         let SD = exactSum (suc k) (λ t. squared (exactDifference e t)) in
         let SS = exactSum (suc (suc k)) (λ t. squared (exact (e ‼ t))) in
         let q = quotient-term (3 + k) (1 + suc k) (sumOf (suc k) (λ t. squareOf (e ‼ (t + 1) ⊖ e ‼ t))) (sumOf (suc (suc k)) (λ t. squareOf (e ‼ t))) SD SS (omega arith) (omega arith) over under above below (some h) in
         let c : Close (2 * suc (suc k) + 2) (q .0 * SS) (SD * 2 ^ 1074) = subst (λ (i : ℕ). Close i (q .0 * SS) (SD * 2 ^ 1074)) (omega arith) (q .2) in
-        record { isFinite = valued-finite d false (q .0) (q .1); divisor = some h; error = rw (exact-is d false (q .0) (q .1), abs-minus (q .0 * SS) (SD * 2 ^ 1074)) (close-bound K c) }
+        record { isFinite = valued-finite d false (q .0) (q .1); divisor = some h; near = rw (exact-is d false (q .0) (q .1)) (near-bound (suc (suc k)) (q .0 * SS) (SD * 2 ^ 1074) K c) }
 
   -- of n numbers
   pub accurate : (e : List Float) (n : ℕ) → 2 ≤ n → n ≤ 256 → ((t : ℕ) → t < n → Number (e ‼ t)) → ((t : ℕ) → t < n → Among lo hi (natAbs (exact (e ‼ t))))

@@ -92,21 +92,17 @@ outward c k x X C h g =
     (le-trans (mul-le-mul-right (c + k + (k + 2)) g) (le-of-eq (mul-right-comm X (c + k) (c + k + (k + 2))))))))
     (lt-of-lt-of-le C (le-add-right c k))
 
-apart : (x X y : ℕ) → x * 2 ^ 53 ≤ X * 2 ^ 53 + 2 * y → X * 2 ^ 53 ≤ x * 2 ^ 53 + 2 * y → (x - X + (X - x)) * 2 ^ 52 ≤ y
-apart x X y h g = omega arith
-
--- THE LAST STEP: after 2 n + 2 roundings, |x - X| ≤ (n + 2) / 2^52 · X
-pub close-bound : {n x X : ℕ} → n ≤ 256 → Close (2 * n + 2) x X → (x - X + (X - x)) * 2 ^ 52 ≤ (n + 2) * X
+-- THE LAST STEP: after 2 n + 2 roundings, |x - X| ≤ (2 n + 4) / 2^53 · X
+pub close-bound : {n x X : ℕ} → n ≤ 256 → Close (2 * n + 2) x X → (x * 2 ^ 53 ≤ X * 2 ^ 53 + X * (2 * n + 4)) × (X * 2 ^ 53 ≤ x * 2 ^ 53 + X * (2 * n + 4))
 close-bound {n} {x} {X} h c =
     let k = 2 * n + 2 in
     let p : 2 ^ 53 ≡ 2 ^ 53 - k + k = omega arith in
     let out : x * 2 ^ 53 ≤ X * (2 ^ 53 + (k + 2)) =
     subst (λ (P : ℕ). x * P ≤ X * (P + (k + 2))) (sym p)
     (outward (2 ^ 53 - k) k x X (omega arith) (le-trans (mul-le-mul-left {m = k} {n = 514} k (omega arith)) (omega arith)) (subst (λ (P : ℕ). x * (2 ^ 53 - k) ≤ X * P) p (c .below))) in
-    let twice : X * (k + 2) ≡ 2 * ((n + 2) * X) = omega (arith, mul-comm X n) in
-    apart x X ((n + 2) * X)
-    (le-trans out (le-of-eq (mul-add X (2 ^ 53) (k + 2) ∙ ap (λ (z : ℕ). X * 2 ^ 53 + z) twice)))
-    (rest (X * 2 ^ 53) (X * k) (X * 2) (x * 2 ^ 53) (2 * ((n + 2) * X)) (le-trans (le-of-eq (sym (mul-sub X (2 ^ 53) k))) (c .above)) (sym (mul-add X k 2) ∙ twice))
+    let more : k + 2 ≡ 2 * n + 4 = omega arith in
+    (le-trans out (le-of-eq (mul-add X (2 ^ 53) (k + 2) ∙ ap (λ (z : ℕ). X * 2 ^ 53 + X * z) more)),
+    rest (X * 2 ^ 53) (X * k) (X * 2) (x * 2 ^ 53) (X * (2 * n + 4)) (le-trans (le-of-eq (sym (mul-sub X (2 ^ 53) k))) (c .above)) (sym (mul-add X k 2) ∙ ap (λ (z : ℕ). X * z) more))
   where
     rest : (a b c d z : ℕ) → a - b ≤ d → b + c ≡ z → a ≤ d + z
     rest a b c d z h g = omega arith

@@ -7,3 +7,4 @@ pub mod Rules
 pub mod Powers
 pub mod Range
 pub mod Theorems
+pub mod Sheets

@@ -84,11 +84,11 @@ both false b x y d p h = absurd (refused y d p h)
 pub accepted : (e : List Float) (d : Float) → durbinWatsonAnswer e ≡ Value d → Accepted e d
 unfolding durbinWatsonAnswer
 accepted e d h =
-    let a = past (eqb (length e) 0) Empty (cond (eqb (length e) 1) Single (ofFound (firstBad e) e)) d (lit< tt) h in
-    let b = past (eqb (length e) 1) Single (ofFound (firstBad e) e) d (lit< tt) (a .1) in
+    let a = past _ Empty _ d (lit< tt) h in
+    let b = past _ Single _ d (lit< tt) (a .1) in
     let none : firstBad e ≡ Nothing = unfound (firstBad e) e d (b .1) in
-    let c = past (eq (squares e) plusZero) ZeroSum (cond (finite (squares e) && finite (differences e)) (Value (durbinWatson e)) Overflow) d (lit< tt) (rw none at (b .1)) in
-    let v = both (finite (squares e)) (finite (differences e)) (Value (durbinWatson e)) Overflow d (lit< tt) (c .1) in
+    let c = past _ ZeroSum _ d (lit< tt) (rw none at (b .1)) in
+    let v = both _ _ _ Overflow d (lit< tt) (c .1) in
     record {
       many = few (length e) (eqb-false (length e) 0 (a .0)) (eqb-false (length e) 1 (b .0));
       numbers = none;

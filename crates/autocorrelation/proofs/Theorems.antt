@@ -77,20 +77,20 @@ answer-accurate e d v b h p q =
     subst (λ (x : Float). Accurate (length e) x (exactDifferences e) (exactSquares e)) (r .is) (statistic-accurate e (r .many) b h (r .numbers) (r .some) p q)
 
 -- ---- the same with no rule on differences, where every number is 0 or from 2^-220 to 2^220 in size
-pub statistic-accurate-220 : (e : List Float) → 2 ≤ length e → length e ≤ 256 → T (held? e) → firstBad e ≡ Nothing → eq (squares e) plusZero ≡ false
+pub statistic-accurate-narrow : (e : List Float) → 2 ≤ length e → length e ≤ 256 → T (held? e) → firstBad e ≡ Nothing → eq (squares e) plusZero ≡ false
     → T (numbersSized? 220 e) → Accurate (length e) (durbinWatson e) (exactDifferences e) (exactSquares e)
-statistic-accurate-220 e a b h f s p =
+statistic-accurate-narrow e a b h f s p =
     accurate (2 ^ 802) (2 ^ 1295) outer e (length e) a b (numbers e h f) (λ (t : ℕ) (g : t < length e). wider (lit≤ tt) (lit≤ tt) (size t g))
     (λ (t : ℕ) (g : t < length e - 1). apart (e ‼ t) (e ‼ (t + 1)) (numbers e h f t (omega arith)) (numbers e h f (t + 1) (omega arith)) (size t (omega arith)) (size (t + 1) (omega arith))) s
   where
     size : (t : ℕ) → t < length e → Among (2 ^ 854) (2 ^ 1294) (natAbs (exact (e ‼ t)))
     size t g = among 220 (exact (e ‼ t)) (all-at (length e) (λ t. sized? 220 (exact (e ‼ t))) t p g)
 
-pub answer-accurate-220 : (e : List Float) (d : Float) → durbinWatsonAnswer e ≡ Value d → length e ≤ 256 → T (held? e)
+pub answer-accurate-narrow : (e : List Float) (d : Float) → durbinWatsonAnswer e ≡ Value d → length e ≤ 256 → T (held? e)
     → T (numbersSized? 220 e) → Accurate (length e) d (exactDifferences e) (exactSquares e)
-answer-accurate-220 e d v b h p =
+answer-accurate-narrow e d v b h p =
     let r = accepted e d v in
-    subst (λ (x : Float). Accurate (length e) x (exactDifferences e) (exactSquares e)) (r .is) (statistic-accurate-220 e (r .many) b h (r .numbers) (r .some) p)
+    subst (λ (x : Float). Accurate (length e) x (exactDifferences e) (exactSquares e)) (r .is) (statistic-accurate-narrow e (r .many) b h (r .numbers) (r .some) p)
 
 -- ---- an accepted statistic is finite and not negative
 pub answer-finite : (e : List Float) (d : Float) → durbinWatsonAnswer e ≡ Value d → T (held? e) → T (finite d) × T (le plusZero d)

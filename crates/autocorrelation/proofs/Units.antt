@@ -39,8 +39,13 @@ module _ (L : ℕ) (LP : 0 < L) where
   sum-same : (s : Bool) (a : ℕ) (t : Bool) (b c A B : ℕ) → 0 < c → a * L ≡ A * c → b * L ≡ B * c → sum binary64 s a t b c ≡ sum binary64 s A t B L
   unfolding sum
   sum-same s a t b c A B C p q =
-      rw (round-same binary64 s (a + b) c (A + B) L C LP (plus a b c A B p q), round-same binary64 t (b - a) c (B - A) L C LP (less b a c B A q p),
-      round-same binary64 (s && ltb b a) (a - b) c (A - B) L C LP (less a b c A B p q), order a b c A B C p q, order b a c B A C q p)
+      rw (
+        round-same binary64 s (a + b) c (A + B) L C LP (plus a b c A B p q),
+        round-same binary64 t (b - a) c (B - A) L C LP (less b a c B A q p),
+        round-same binary64 (s && ltb b a) (a - b) c (A - B) L C LP (less a b c A B p q),
+        order a b c A B C p q,
+        order b a c B A C q p,
+      )
 
 -- ---- sums and differences
 pub add-is : (x y : Float) (s t : Bool) (A B : ℕ) → Valued x s A → Valued y t B → x ⊕ y ≡ sum binary64 s A t B (2 ^ 1074)

@@ -41,11 +41,15 @@ exactSquares e = exactSum (length e) (λ t. squared (exact (e ‼ t)))
 abbrev pub exactDifferences : List Float → ℕ
 exactDifferences e = exactSum (length e - 1) (λ t. squared (exactDifference e t))
 
--- |d - D| ≤ (n + 2) / 2^52 · D, for the quotient D of SD by SS: both sides are taken times SS, 2^1074 and 2^52
+-- |x - y| ≤ (n + 2) / 2^52 · |y|
+abbrev pub Near : ℕ → ℤ → ℤ → Type 0
+Near n x y = natAbs (x -ℤ y) * 2 ^ 52 ≤ (n + 2) * natAbs y
+
+-- d is finite, and |d - D| ≤ (n + 2) / 2^52 · D for D = SD / SS: d and D are both taken times SS and 2^1074
 pub record Accurate (n : ℕ) (d : Float) (SD SS : ℕ) : Type 0 where
   pub isFinite : T (finite d)
   pub divisor : 0 < SS
-  pub error : natAbs (exact d *ℤ pos SS -ℤ pos (SD * 2 ^ 1074)) * 2 ^ 52 ≤ (n + 2) * (SD * 2 ^ 1074)
+  pub near : Near n (exact d *ℤ pos SS) (pos (SD * 2 ^ 1074))
 
 -- ---- the rules, as tests that compute
 

@@ -4,7 +4,6 @@ use lib.Ieee.{Float, neg, ofBits}
 use Prim.Native.Nat.{ℕ, _≤_, _+_, _-_}
 use native.Mathlib.Omega.{arith}
 use native.Mathlib.Numerals.{add-one}
-use native.Mathlib.Nat.{le-antisymm}
 use mathlib.Core.Path.{_≡_, refl}
 use lib.ListN.{length}
 use borrow.Author.Needs.{needs}
@@ -26,7 +25,7 @@ unfolding sumOf
 one-more term t = rw add-one
 
 loop-again : tie.Need-loop-again Inv-loop μ-loop
-loop-again c = (omega arith, search needs, rw one-more (cc))
+loop-again c = (omega arith, search needs, rw (one-more, ← c .before .before .before .loop .inv .2))
 
 returns : tie.Need-returns Inv-loop μ-loop
 returns c = let h : c .before .loop .t ≡ length (c .before .before .args .e .now) - 1 = omega arith in cc
