@@ -1,25 +1,23 @@
 -- The bound: within 2 n + 2 roundings of the exact quotient, so within (n + 2) / 2^52 of it. A square is 1 rounding off, a squared difference 3 (the
 -- difference counts twice), n - 1 and n - 2 additions come on top, and the division is one more: 1 + (1 + (n - 1)) + (3 + (n - 2)). Assumes nothing.
-use mathlib.Core.Path.{_≡_, refl, sym, ap, _∙_, subst}
+use mathlib.Core.Path.{_≡_, sym, ap, _∙_, subst}
 use mathlib.Core.Logic.{_⊎_, inl, inr}
 use Prim.Native.Nat.{ℕ, zero, suc, _+_, _-_, _*_, _^_, _≤_, _<_}
-use native.Mathlib.Nat.{not-suc-le-zero, le-of-suc-le-suc, le-refl, le-trans, le-of-eq, lt-of-le-of-lt, lt-of-lt-of-le, lt-irrefl, eq-zero-or-pos, zero-mul, mul-comm, mul-assoc, mul-right-comm, mul-le-mul, mul-le-mul-left, mul-le-mul-right, mul-lt-mul-of-pos-right, mul-pos, le-of-mul-le-mul-right, eq-of-mul-eq-mul-right}
+use native.Mathlib.Nat.{not-suc-le-zero, le-of-suc-le-suc, le-trans, le-of-eq, lt-of-le-of-lt, lt-of-lt-of-le, lt-irrefl, eq-zero-or-pos, mul-comm, mul-assoc, mul-right-comm, mul-le-mul, mul-le-mul-left, mul-le-mul-right, mul-lt-mul-of-pos-right, mul-pos, le-of-mul-le-mul-right, eq-of-mul-eq-mul-right}
 use native.Mathlib.Omega.{arith}
-use mathlib.Core.Bool.{Bool, true, false, true≢false}
+use mathlib.Core.Bool.{Bool, false, true≢false}
 use mathlib.Core.List.{List}
-use lib.Dec.{T, lit≤, lit<}
+use lib.Dec.{lit≤}
 use lib.Pow.{pow-pos}
 use lib.IntN.{ℤ, pos, natAbs, _-ℤ_}
-use lib.Ieee.{Float, binary64, round, eq, fits}
-use lib.Ieee.Scale.{round-same}
+use lib.Ieee.{Float, binary64, eq}
 use lib.Ieee.Fits.{mul-fits}
 use Rattle.floats.specs.Words.{_⊖_, _⊗_, _⊘_, _‼_, plusZero, squareOf}
-use Rattle.floats.specs.Sums.{sumOf}
 use Rattle.autocorrelation.specs.Bound.{exact, exactDifference, squared, exactSum, Near, Accurate}
-use Rattle.autocorrelation.proofs.Close.{Close, close-refl, close-sym, close-trans, close-mul, close-over, close-double, close-zero, close-half, close-times, close-bound}
+use Rattle.autocorrelation.proofs.Close.{Close, close-refl, close-sym, close-trans, close-mul, close-over, close-double, close-zero, close-half, close-bound}
 use Rattle.autocorrelation.proofs.Rounding.{Valued, round-fine, round-whole}
-use Rattle.autocorrelation.proofs.Units.{minus-is, square-is, quotient-is, Number, exact-is, size-is, valued-finite, none-is, abs-minus}
-use Rattle.autocorrelation.proofs.SumLaws.{Term, sum-close, Among, sum-among}
+use Rattle.autocorrelation.proofs.Units.{square-is, quotient-is, Number, number-size, difference-is, plus-exact, valued-finite, none-is, abs-minus}
+use Rattle.autocorrelation.proofs.SumLaws.{Term, sum-close, Among, sum-among, SD, SS, exactSD, exactSS}
 
 -- 2 n + 2 roundings
 near-bound : (n x X : ℕ) → n ≤ 256 → Close (2 * n + 2) x X → Near n (pos x) (pos X)
@@ -67,15 +65,14 @@ module _ (lo hi : ℕ) (w : Window lo hi) where
           inr (le-trans (le-of-eq (sym (mul-assoc (2 ^ 52) (2 ^ 1074) (2 ^ 1074)))) (mul-le-mul-right (2 ^ 1074) (le-trans (w .normal) (mul-le-mul low low))))
 
   -- of a number, and of a difference
-  number-term : (x : Float) → Number x → Among lo hi (natAbs (exact x)) → Term 1 (x ⊗ x) (squared (exact x))
-  number-term x u r = square-term 0 x (u .sign) (natAbs (exact x)) (natAbs (exact x)) (lit≤ tt) (rw (size-is x (u .sign) (u .m * 2 ^ (u .j)) (u .val)) (u .val)) close-refl r
+  number-term : {x : Float} → Number x → Among lo hi (natAbs (exact x)) → Term 1 (x ⊗ x) (squared (exact x))
+  number-term {x} u r = square-term 0 x (u .sign) (natAbs (exact x)) (natAbs (exact x)) (lit≤ tt) (rw (number-size u) (u .val)) close-refl r
 
-  difference-term : (x y : Float) → Number x → Number y → Among lo hi (natAbs (exact y -ℤ exact x)) → Term 3 (squareOf (y ⊖ x)) (squared (exact y -ℤ exact x))
-  difference-term x y u v r =
-      let d = minus-is y x (v .sign) (u .sign) (v .m * 2 ^ (v .j)) (u .m * 2 ^ (u .j)) (v .val) (u .val) in
+  difference-term : {x y : Float} → Number x → Number y → Among lo hi (natAbs (exact y -ℤ exact x)) → Term 3 (squareOf (y ⊖ x)) (squared (exact y -ℤ exact x))
+  difference-term {x} {y} u v r =
+      let d = difference-is u v in
       let q = round-whole (d .0) (natAbs (exact y -ℤ exact x)) (lt-of-le-of-lt (r .up-to) (w .short)) in
-      let is : y ⊖ x ≡ round binary64 (d .0) (natAbs (exact y -ℤ exact x)) (2 ^ 1074) = rw (exact-is y (v .sign) (v .m * 2 ^ (v .j)) (v .val), exact-is x (u .sign) (u .m * 2 ^ (u .j)) (u .val)) (d .1) in
-      square-term 1 (y ⊖ x) (d .0) (q .0) (natAbs (exact y -ℤ exact x)) (lit≤ tt) (rw is (q .1)) (q .2) r
+      square-term 1 (y ⊖ x) (d .0) (q .0) (natAbs (exact y -ℤ exact x)) (lit≤ tt) (rw (d .1) (q .1)) (q .2) r
 
   -- ---- the quotient, of sums of at most 2^8 squares
   squares-among : (n : ℕ) (z : ℕ → ℤ) → n ≤ 2 ^ 8 → ((t : ℕ) → t < n → Among lo hi (natAbs (z t))) → Among (lo * lo) (2 ^ 8 * (hi * hi)) (exactSum n (λ t. squared (z t)))
@@ -125,47 +122,42 @@ module _ (lo hi : ℕ) (w : Window lo hi) where
   -- ---- the statistic of k + 2 numbers
   module _ (e : List Float) (k : ℕ) (K : suc (suc k) ≤ 256) (numbers : (t : ℕ) → t < suc (suc k) → Number (e ‼ t)) (sized : (t : ℕ) → t < suc (suc k) → Among lo hi (natAbs (exact (e ‼ t))))
       (apart : (t : ℕ) → t < suc k → Among lo hi (natAbs (exactDifference e t))) where
-    above : Among (lo * lo) (2 ^ 8 * (hi * hi)) (exactSum (suc k) (λ t. squared (exactDifference e t)))
-    above = squares-among (suc k) (λ t. exactDifference e t) (omega arith) apart
+    SD-among : Among (lo * lo) (2 ^ 8 * (hi * hi)) (exactSD e (suc k))
+    SD-among = squares-among (suc k) (λ t. exactDifference e t) (omega arith) apart
 
-    below : Among (lo * lo) (2 ^ 8 * (hi * hi)) (exactSum (suc (suc k)) (λ t. squared (exact (e ‼ t))))
-    below = squares-among (suc (suc k)) (λ t. exact (e ‼ t)) K sized
+    SS-among : Among (lo * lo) (2 ^ 8 * (hi * hi)) (exactSS e (suc (suc k)))
+    SS-among = squares-among (suc (suc k)) (λ t. exact (e ‼ t)) K sized
 
-    over : Term (3 + k) (sumOf (suc k) (λ t. squareOf (e ‼ (t + 1) ⊖ e ‼ t))) (exactSum (suc k) (λ t. squared (exactDifference e t)))
-    over =
-        sum-close 3 (λ t. squareOf (e ‼ (t + 1) ⊖ e ‼ t)) (λ t. squared (exactDifference e t)) (mul-fits binary64 (e ‼ 1 ⊖ e ‼ 0) (e ‼ 1 ⊖ e ‼ 0)) k (omega arith) (le-trans (above .up-to) (w .total))
-        (λ (t : ℕ) (g : t < suc k). difference-term (e ‼ t) (e ‼ (t + 1)) (numbers t (omega arith)) (numbers (t + 1) (omega arith)) (apart t g))
+    SD-term : Term (3 + k) (SD e (suc k)) (exactSD e (suc k))
+    SD-term =
+        sum-close 3 (λ t. squareOf (e ‼ (t + 1) ⊖ e ‼ t)) (λ t. squared (exactDifference e t)) (mul-fits binary64 (e ‼ 1 ⊖ e ‼ 0) (e ‼ 1 ⊖ e ‼ 0)) k (omega arith) (le-trans (SD-among .up-to) (w .total))
+        (λ (t : ℕ) (g : t < suc k). difference-term (numbers t (omega arith)) (numbers (t + 1) (omega arith)) (apart t g))
 
-    under : Term (1 + suc k) (sumOf (suc (suc k)) (λ t. squareOf (e ‼ t))) (exactSum (suc (suc k)) (λ t. squared (exact (e ‼ t))))
-    under =
-        sum-close 1 (λ t. squareOf (e ‼ t)) (λ t. squared (exact (e ‼ t))) (mul-fits binary64 (e ‼ 0) (e ‼ 0)) (suc k) (omega arith) (le-trans (below .up-to) (w .total))
-        (λ (t : ℕ) (g : t < suc (suc k)). number-term (e ‼ t) (numbers t g) (sized t g))
+    SS-term : Term (1 + suc k) (SS e (suc (suc k))) (exactSS e (suc (suc k)))
+    SS-term =
+        sum-close 1 (λ t. squareOf (e ‼ t)) (λ t. squared (exact (e ‼ t))) (mul-fits binary64 (e ‼ 0) (e ‼ 0)) (suc k) (omega arith) (le-trans (SS-among .up-to) (w .total))
+        (λ (t : ℕ) (g : t < suc (suc k)). number-term (numbers t g) (sized t g))
 
-    some : eq (sumOf (suc (suc k)) (λ t. squareOf (e ‼ t))) plusZero ≡ false → 0 < exactSum (suc (suc k)) (λ t. squared (exact (e ‼ t)))
-    some h = go (eq-zero-or-pos (exactSum (suc (suc k)) (λ t. squared (exact (e ‼ t)))))
-      where
-        go : (exactSum (suc (suc k)) (λ t. squared (exact (e ‼ t))) ≡ 0) ⊎ (0 < exactSum (suc (suc k)) (λ t. squared (exact (e ‼ t)))) → 0 < exactSum (suc (suc k)) (λ t. squared (exact (e ‼ t)))
-        go (inl z) =
-            let n : under .g ≡ 0 = eq-of-mul-eq-mul-right (2 ^ 1074) (pow-pos 1074) (under .g) 0 (close-zero (omega arith) (under .near) z) in
-            absurd (true≢false (sym (none-is (sumOf (suc (suc k)) (λ t. squareOf (e ‼ t))) (rw n at (under .val))) ∙ h))
-        go (inr p) = p
+    -- a sum that is not 0 as computed is not 0
+    some : eq (SS e (suc (suc k))) plusZero ≡ false → (exactSS e (suc (suc k)) ≡ 0) ⊎ (0 < exactSS e (suc (suc k))) → 0 < exactSS e (suc (suc k))
+    some h (inl z) =
+        let n : SS-term .g ≡ 0 = eq-of-mul-eq-mul-right (2 ^ 1074) (pow-pos 1074) (SS-term .g) 0 (close-zero (omega arith) (SS-term .near) z) in
+        absurd (true≢false (sym (none-is (SS e (suc (suc k))) (rw n at (SS-term .val))) ∙ h))
+    some h (inr p) = p
 
-    counted :
-        eq (sumOf (suc (suc k)) (λ t. squareOf (e ‼ t))) plusZero ≡ false
-        → Accurate (suc (suc k)) (sumOf (suc k) (λ t. squareOf (e ‼ (t + 1) ⊖ e ‼ t)) ⊘ sumOf (suc (suc k)) (λ t. squareOf (e ‼ t))) (exactSum (suc k) (λ t. squared (exactDifference e t)))
-        (exactSum (suc (suc k)) (λ t. squared (exact (e ‼ t))))
+    counted : eq (SS e (suc (suc k))) plusZero ≡ false → Accurate (suc (suc k)) (SD e (suc k) ⊘ SS e (suc (suc k))) (exactSD e (suc k)) (exactSS e (suc (suc k)))
     counted h =
-        let d = sumOf (suc k) (λ t. squareOf (e ‼ (t + 1) ⊖ e ‼ t)) ⊘ sumOf (suc (suc k)) (λ t. squareOf (e ‼ t)) in
-        let SD = exactSum (suc k) (λ t. squared (exactDifference e t)) in
-        let SS = exactSum (suc (suc k)) (λ t. squared (exact (e ‼ t))) in
-        let q = quotient-term (3 + k) (1 + suc k) (sumOf (suc k) (λ t. squareOf (e ‼ (t + 1) ⊖ e ‼ t))) (sumOf (suc (suc k)) (λ t. squareOf (e ‼ t))) SD SS (omega arith) (omega arith) over under above below (some h) in
-        let c : Close (2 * suc (suc k) + 2) (q .0 * SS) (SD * 2 ^ 1074) = subst (λ (i : ℕ). Close i (q .0 * SS) (SD * 2 ^ 1074)) (omega arith) (q .2) in
-        record { isFinite = valued-finite d false (q .0) (q .1); divisor = some h; near = rw (exact-is d false (q .0) (q .1)) (near-bound (suc (suc k)) (q .0 * SS) (SD * 2 ^ 1074) K c) }
+        let S = exactSS e (suc (suc k)) in
+        let D = exactSD e (suc k) in
+        let P : 0 < S = some h (eq-zero-or-pos S) in
+        let q = quotient-term (3 + k) (1 + suc k) (SD e (suc k)) (SS e (suc (suc k))) D S (omega arith) (omega arith) SD-term SS-term SD-among SS-among P in
+        let c : Close (2 * suc (suc k) + 2) (q .0 * S) (D * 2 ^ 1074) = subst (λ (i : ℕ). Close i (q .0 * S) (D * 2 ^ 1074)) (omega arith) (q .2) in
+        let d = SD e (suc k) ⊘ SS e (suc (suc k)) in
+        record { isFinite = valued-finite d false (q .0) (q .1); divisor = P; near = rw (plus-exact d (q .0) (q .1)) (near-bound (suc (suc k)) (q .0 * S) (D * 2 ^ 1074) K c) }
 
   -- of n numbers
   pub accurate : (e : List Float) (n : ℕ) → 2 ≤ n → n ≤ 256 → ((t : ℕ) → t < n → Number (e ‼ t)) → ((t : ℕ) → t < n → Among lo hi (natAbs (exact (e ‼ t))))
-      → ((t : ℕ) → t < n - 1 → Among lo hi (natAbs (exactDifference e t))) → eq (sumOf n (λ t. squareOf (e ‼ t))) plusZero ≡ false
-      → Accurate n (sumOf (n - 1) (λ t. squareOf (e ‼ (t + 1) ⊖ e ‼ t)) ⊘ sumOf n (λ t. squareOf (e ‼ t))) (exactSum (n - 1) (λ t. squared (exactDifference e t))) (exactSum n (λ t. squared (exact (e ‼ t))))
+      → ((t : ℕ) → t < n - 1 → Among lo hi (natAbs (exactDifference e t))) → eq (SS e n) plusZero ≡ false → Accurate n (SD e (n - 1) ⊘ SS e n) (exactSD e (n - 1)) (exactSS e n)
   accurate e zero a b numbers sized apart h = absurd (not-suc-le-zero a)
   accurate e (suc zero) a b numbers sized apart h = absurd (not-suc-le-zero (le-of-suc-le-suc a))
   accurate e (suc (suc k)) a b numbers sized apart h =

@@ -100,9 +100,10 @@ close-bound {n} {x} {X} h c =
     let out : x * 2 ^ 53 ≤ X * (2 ^ 53 + (k + 2)) =
     subst (λ (P : ℕ). x * P ≤ X * (P + (k + 2))) (sym p)
     (outward (2 ^ 53 - k) k x X (omega arith) (le-trans (mul-le-mul-left {m = k} {n = 514} k (omega arith)) (omega arith)) (subst (λ (P : ℕ). x * (2 ^ 53 - k) ≤ X * P) p (c .below))) in
-    let more : k + 2 ≡ 2 * n + 4 = omega arith in
-    (le-trans out (le-of-eq (mul-add X (2 ^ 53) (k + 2) ∙ ap (λ (z : ℕ). X * 2 ^ 53 + X * z) more)),
-    rest (X * 2 ^ 53) (X * k) (X * 2) (x * 2 ^ 53) (X * (2 * n + 4)) (le-trans (le-of-eq (sym (mul-sub X (2 ^ 53) k))) (c .above)) (sym (mul-add X k 2) ∙ ap (λ (z : ℕ). X * z) more))
+    let more : k + 2 ≡ 2 * n + 4 = omega arith in (
+      le-trans out (le-of-eq (mul-add X (2 ^ 53) (k + 2) ∙ ap (λ (z : ℕ). X * 2 ^ 53 + X * z) more)),
+      rest (X * 2 ^ 53) (X * k) (X * 2) (x * 2 ^ 53) (X * (2 * n + 4)) (le-trans (le-of-eq (sym (mul-sub X (2 ^ 53) k))) (c .above)) (sym (mul-add X k 2) ∙ ap (λ (z : ℕ). X * z) more),
+    )
   where
     rest : (a b c d z : ℕ) → a - b ≤ d → b + c ≡ z → a ≤ d + z
     rest a b c d z h g = omega arith

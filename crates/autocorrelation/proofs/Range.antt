@@ -4,24 +4,24 @@
 use mathlib.Core.Path.{_≡_, refl, sym, ap, _∙_, subst}
 use mathlib.Core.Logic.{_⊎_, inl, inr, ⊎-elim}
 use Prim.Native.Nat.{ℕ, zero, suc, _+_, _-_, _*_, _^_, _≤_, _<_, zero-le}
-use native.Mathlib.Nat.{not-suc-le-zero, le-of-suc-le-suc, not-le-of-lt, le-of-lt, eq-zero-or-pos, add-le-add, le-refl, le-trans, le-of-eq, le-step, le-add-right, le-add-left, lt-of-le-of-lt, lt-of-lt-of-le, eq-or-lt-of-le, zero-mul, add-mul, mul-assoc, mul-le-mul, mul-le-mul-right, mul-le-mul-left, mul-pos, le-mul-of-pos-right}
+use native.Mathlib.Nat.{not-suc-le-zero, le-of-suc-le-suc, not-le-of-lt, le-of-lt, eq-zero-or-pos, add-le-add, le-refl, le-trans, le-of-eq, le-step, le-add-right, le-add-left, lt-of-le-of-lt, eq-or-lt-of-le, zero-mul, mul-assoc, mul-le-mul, mul-le-mul-right, mul-le-mul-left, mul-pos}
 use native.Mathlib.Omega.{arith}
-use mathlib.Core.Bool.{Bool, true, false, not, Bool·beq, cond, true≢false}
+use mathlib.Core.Bool.{Bool, true, false, not, Bool·beq, true≢false}
 use mathlib.Core.List.{List}
 use borrow.Author.Tests.{le-ltb}
 use lib.Dec.{T, ltb, leb, ltb→lt, nltb→le, leb→le, nleb→lt, lit≤, lit<}
 use lib.Pow.{pow-pos, pow-mono}
 use lib.IntN.{natAbs, _-ℤ_}
-use lib.Ieee.{Float, nan, inf, fin, binary64, up, down, isNan, round, units, odd, neg, add, mul, eq, fits, ofBits}
-use lib.Ieee.Exact.{HasValue}
+use lib.Ieee.{Float, nan, inf, fin, binary64, up, down, isNan, round, units, odd, neg, add, mul, eq, ofBits}
 use lib.Ieee.Fits.{round-is, down-pos, add-fits}
 use lib.Ieee.Order.{drop, kept}
 use lib.Ieee.Scale.{grid, finite}
 use Rattle.floats.specs.Words.{_⊕_, _⊖_, _⊗_, _⊘_, _‼_, minusZero, plusZero, squareOf}
 use Rattle.floats.specs.Sums.{sumOf}
-use Rattle.autocorrelation.specs.Bound.{signed, exact}
+use Rattle.autocorrelation.specs.Bound.{exact, exactDifference}
 use Rattle.autocorrelation.proofs.Rounding.{Valued, round-units}
-use Rattle.autocorrelation.proofs.Units.{plus-is, start-is, minus-is, square-is, quotient-is, Number, number, size-apart, size-is, valued-finite, none-is}
+use Rattle.autocorrelation.proofs.Units.{plus-is, start-is, square-is, quotient-is, Number, difference-is, apart-is, held-rounds, size-is, none-is}
+use Rattle.autocorrelation.proofs.SumLaws.{SD, SS}
 use Rattle.autocorrelation.proofs.Rules.{most}
 use Rattle.autocorrelation.proofs.Powers.{at-least, at-most}
 
@@ -57,6 +57,9 @@ round-above m a c keeps C h = go (ltb (grid binary64 a c) (2 ^ 2098)) (ltb→lt 
     go : (t : Bool) → (T t → grid binary64 a c < 2 ^ 2098) → (T (not t) → 2 ^ 2098 ≤ grid binary64 a c) → Above m (round binary64 false a c)
     go true l g = valued-above m (round binary64 false a c) (grid binary64 a c) (round-units false a c (l tt)) (keeps (a * 2 ^ 1074) c C h)
     go false l g = subst (Above m) (sym (round-is binary64 false a c ∙ over (kept 53 (a * 2 ^ 1074) c) (drop 53 (a * 2 ^ 1074) c) (g tt))) refl
+
+round-positive : (a : ℕ) {c : ℕ} → 0 < c → Above 0 (round binary64 false a c)
+round-positive a {c} C = round-above 0 a c keeps-none C (le-trans (le-of-eq (zero-mul c)) zero-le)
 
 plus-above : (m a b : ℕ) (x y : Float) → Keeps m → m ≤ a + b → Above a x → Above b y → Above m (x ⊕ y)
 unfolding add
@@ -110,21 +113,18 @@ sum-up-to term b B (suc k) each =
 
 -- ---- squares of numbers, and of their differences
 
-square-above : (x : Float) (u : Number x) (m : ℕ) → Keeps m → m * 2 ^ 1074 ≤ u .m * 2 ^ (u .j) * (u .m * 2 ^ (u .j)) → Above m (x ⊗ x)
-square-above x u m keeps h =
-    let A = u .m * 2 ^ (u .j) in
-    subst (Above m) (sym (square-is x (u .sign) A (u .val)))
-    (round-above m (A * A) (2 ^ 1074 * 2 ^ 1074) keeps (mul-pos (pow-pos 1074) (pow-pos 1074)) (le-trans (le-of-eq (sym (mul-assoc m (2 ^ 1074) (2 ^ 1074)))) (mul-le-mul-right (2 ^ 1074) h)))
+square-above : {x : Float} (u : Number x) (m : ℕ) → Keeps m → m * 2 ^ 1074 ≤ u .units * u .units → Above m (x ⊗ x)
+square-above {x} u m keeps h =
+    subst (Above m) (sym (square-is x (u .sign) (u .units) (u .val)))
+    (round-above m (u .units * u .units) (2 ^ 1074 * 2 ^ 1074) keeps (mul-pos (pow-pos 1074) (pow-pos 1074)) (le-trans (le-of-eq (sym (mul-assoc m (2 ^ 1074) (2 ^ 1074)))) (mul-le-mul-right (2 ^ 1074) h)))
 
 -- both numbers up to 2^i: their difference is up to 2^(r + 54), and its square up to 2^(b + 54)
 difference-up-to : (i r b : ℕ) → r ≤ 2043 → b ≤ 2043 → 2 ^ i * 2 ≤ 2 ^ (r + 54) → 2 ^ (r + 54) * 2 ^ (r + 54) ≤ 2 ^ (b + 54) * 2 ^ 1074
-    → (x y : Float) (u : Number x) (v : Number y) → u .m * 2 ^ (u .j) ≤ 2 ^ i → v .m * 2 ^ (v .j) ≤ 2 ^ i → UpTo (b + 54) (squareOf (y ⊖ x))
-difference-up-to i r b R B h f x y u v p q =
-    let A = v .m * 2 ^ (v .j) in
-    let Z = u .m * 2 ^ (u .j) in
-    let d = minus-is y x (v .sign) (u .sign) A Z (v .val) (u .val) in
-    let W = natAbs (signed (v .sign) A -ℤ signed (u .sign) Z) in
-    let l : W ≤ 2 ^ (r + 54) = le-trans (le-of-eq (size-apart (v .sign) (u .sign) A Z)) (le-trans (most (Bool·beq (v .sign) (u .sign)) A Z (2 ^ i) q p) h) in
+    → {x y : Float} (u : Number x) (v : Number y) → u .units ≤ 2 ^ i → v .units ≤ 2 ^ i → UpTo (b + 54) (squareOf (y ⊖ x))
+difference-up-to i r b R B h f {x} {y} u v p q =
+    let d = difference-is u v in
+    let W = natAbs (exact y -ℤ exact x) in
+    let l : W ≤ 2 ^ (r + 54) = le-trans (le-of-eq (apart-is u v)) (le-trans (most (Bool·beq (v .sign) (u .sign)) (v .units) (u .units) (2 ^ i) q p) h) in
     let g = round-up-to (d .0) W (2 ^ 1074) r R (pow-pos 1074) (mul-le-mul-right (2 ^ 1074) (le-trans l (le-add-right (2 ^ (r + 54)) (2 ^ r)))) in
     let m : g .0 * g .0 ≤ 2 ^ (b + 54) * 2 ^ 1074 = le-trans (mul-le-mul (g .2) (g .2)) f in
     subst (UpTo (b + 54)) (sym (square-is (y ⊖ x) (d .0) (g .0) (subst (λ (z : Float). Valued z (d .0) (g .0)) (sym (d .1)) (g .1))))
@@ -142,19 +142,14 @@ units-above m nan g p v = absurd v
 units-above m (inf s) g p v = absurd v
 units-above m (fin s k e) g p v = le-trans (p .2) (le-of-eq (sym (size-is (fin s k e) false (p .0) (p .1)) ∙ size-is (fin s k e) false g v))
 
-units-under : (x : Float) (g : ℕ) → Valued x false g → T (fits binary64 x) → g < 2 ^ 2098
-units-under x g v h =
-    let u = number x (valued-finite x false g v) h in
-    lt-of-le-of-lt (le-of-eq (sym (size-is x false g v) ∙ size-is x (u .sign) (u .m * 2 ^ (u .j)) (u .val))) (u .under)
-
 -- a square is not negative, and a difference of numbers is no NaN
 square-positive : (x : Float) → isNan x ≡ false → Above 0 (x ⊗ x)
 unfolding mul isNan
 square-positive nan h = absurd (true≢false h)
 square-positive (inf true) h = refl
 square-positive (inf false) h = refl
-square-positive (fin true m e) h = round-above 0 (m * up e * (m * up e)) (down e * down e) keeps-none (mul-pos (down-pos e) (down-pos e)) (le-trans (le-of-eq (zero-mul (down e * down e))) zero-le)
-square-positive (fin false m e) h = round-above 0 (m * up e * (m * up e)) (down e * down e) keeps-none (mul-pos (down-pos e) (down-pos e)) (le-trans (le-of-eq (zero-mul (down e * down e))) zero-le)
+square-positive (fin true m e) h = round-positive (m * up e * (m * up e)) (mul-pos (down-pos e) (down-pos e))
+square-positive (fin false m e) h = round-positive (m * up e * (m * up e)) (mul-pos (down-pos e) (down-pos e))
 
 round-number : (s : Bool) (a c : ℕ) → isNan (round binary64 s a c) ≡ false
 round-number s a c = ap isNan (round-is binary64 s a c) ∙ go (kept 53 (a * 2 ^ 1074) c) (drop 53 (a * 2 ^ 1074) c) (ltb (kept 53 (a * 2 ^ 1074) c * 2 ^ drop 53 (a * 2 ^ 1074) c) (2 ^ 2098)) refl
@@ -166,73 +161,66 @@ round-number s a c = ap isNan (round-is binary64 s a c) ∙ go (kept 53 (a * 2 ^
 
 -- ---- the two sums of k + 2 numbers
 module _ (e : List Float) (k : ℕ) (numbers : (t : ℕ) → t < suc (suc k) → Number (e ‼ t)) where
-  abbrev SS : Float
-  SS = sumOf (suc (suc k)) (λ t. squareOf (e ‼ t))
-
-  abbrev SD : Float
-  SD = sumOf (suc k) (λ t. squareOf (e ‼ (t + 1) ⊖ e ‼ t))
-
   squares-above : (t : ℕ) → t < suc (suc k) → Above 0 (squareOf (e ‼ t))
-  squares-above t g = square-above (e ‼ t) (numbers t g) 0 keeps-none zero-le
+  squares-above t g = square-above (numbers t g) 0 keeps-none zero-le
 
   differences-above : (t : ℕ) → t < suc k → Above 0 (squareOf (e ‼ (t + 1) ⊖ e ‼ t))
   differences-above t g =
-      let u = numbers t (omega arith) in
-      let v = numbers (t + 1) (omega arith) in
-      let d = minus-is (e ‼ (t + 1)) (e ‼ t) (v .sign) (u .sign) (v .m * 2 ^ (v .j)) (u .m * 2 ^ (u .j)) (v .val) (u .val) in
-      square-positive (e ‼ (t + 1) ⊖ e ‼ t) (ap isNan (d .1) ∙ round-number (d .0) (natAbs (signed (v .sign) (v .m * 2 ^ (v .j)) -ℤ signed (u .sign) (u .m * 2 ^ (u .j)))) (2 ^ 1074))
+      let d = difference-is (numbers t (omega arith)) (numbers (t + 1) (omega arith)) in
+      square-positive (e ‼ (t + 1) ⊖ e ‼ t) (rw (d .1) (round-number (d .0) (natAbs (exactDifference e t)) (2 ^ 1074)))
 
   -- where the sum of squares is below 2^j, no number is above 2^i
-  small : (i j : ℕ) → 2 ^ j * 2 ^ 1074 ≤ 2 ^ i * 2 ^ i → (g : ℕ) → Valued SS false g → g < 2 ^ j → (t : ℕ) (l : t < suc (suc k)) → numbers t l .m * 2 ^ (numbers t l .j) ≤ 2 ^ i
-  small i j f g v h t l = go (numbers t l) (leb (numbers t l .m * 2 ^ (numbers t l .j)) (2 ^ i)) (leb→le (numbers t l .m * 2 ^ (numbers t l .j)) (2 ^ i)) (nleb→lt (numbers t l .m * 2 ^ (numbers t l .j)) (2 ^ i))
+  small : (i j : ℕ) → 2 ^ j * 2 ^ 1074 ≤ 2 ^ i * 2 ^ i → (g : ℕ) → Valued (SS e (suc (suc k))) false g → g < 2 ^ j → (t : ℕ) (l : t < suc (suc k)) → numbers t l .units ≤ 2 ^ i
+  small i j f g v h t l = go (numbers t l) (leb (numbers t l .units) (2 ^ i)) (leb→le (numbers t l .units) (2 ^ i)) (nleb→lt (numbers t l .units) (2 ^ i))
     where
-      go : (u : Number (e ‼ t)) (b : Bool) → (T b → u .m * 2 ^ (u .j) ≤ 2 ^ i) → (T (not b) → 2 ^ i < u .m * 2 ^ (u .j)) → u .m * 2 ^ (u .j) ≤ 2 ^ i
+      go : (u : Number (e ‼ t)) (b : Bool) → (T b → u .units ≤ 2 ^ i) → (T (not b) → 2 ^ i < u .units) → u .units ≤ 2 ^ i
       go u true p q = p tt
       go u false p q =
           absurd
           (not-le-of-lt h
-          (units-above (2 ^ j) SS g
+          (units-above (2 ^ j) (SS e (suc (suc k))) g
           (sum-above (λ t. squareOf (e ‼ t)) (2 ^ j) (suc k) t (keeps-power j) squares-above l
-          (square-above (e ‼ t) u (2 ^ j) (keeps-power j) (le-trans f (mul-le-mul (le-of-lt (q tt)) (le-of-lt (q tt)))))) v))
+          (square-above u (2 ^ j) (keeps-power j) (le-trans f (mul-le-mul (le-of-lt (q tt)) (le-of-lt (q tt)))))) v))
 
   -- and the sum of squared differences is up to 2^(b + 108)
   limited : (i j r b : ℕ) → r ≤ 2043 → b + 54 ≤ 2043 → 2 ^ j * 2 ^ 1074 ≤ 2 ^ i * 2 ^ i → 2 ^ i * 2 ≤ 2 ^ (r + 54) → 2 ^ (r + 54) * 2 ^ (r + 54) ≤ 2 ^ (b + 54) * 2 ^ 1074
-      → (g : ℕ) → Valued SS false g → g < 2 ^ j → UpTo (b + 54 + 54) SD
+      → (g : ℕ) → Valued (SS e (suc (suc k))) false g → g < 2 ^ j → UpTo (b + 54 + 54) (SD e (suc k))
   limited i j r b R B f h m g v l =
       sum-up-to (λ t. squareOf (e ‼ (t + 1) ⊖ e ‼ t)) (b + 54) B k
-      (λ (t : ℕ) (s : t < suc k). difference-up-to i r b R (omega arith) h m (e ‼ t) (e ‼ (t + 1)) (numbers t (omega arith)) (numbers (t + 1) (omega arith)) (small i j f g v l t (omega arith)) (small i j f g v l (t + 1) (omega arith)))
+      (λ (t : ℕ) (s : t < suc k). difference-up-to i r b R (omega arith) h m (numbers t (omega arith)) (numbers (t + 1) (omega arith)) (small i j f g v l t (omega arith)) (small i j f g v l (t + 1) (omega arith)))
 
-  quotient : (a g : ℕ) → Valued SD false a → Valued SS false g → 0 < g → a * 2 ^ 1074 ≤ 2 ^ 2097 * g → (z : ℕ) × Valued (SD ⊘ SS) false z
-  quotient a g u v p h =
-      let q = round-up-to false a g 2043 (lit≤ tt) p (le-trans h (mul-le-mul-right g (lit≤ tt))) in
-      (q .0, subst (λ (x : Float). Valued x false (q .0)) (sym (quotient-is SD SS a g u v p)) (q .1))
-
-  counted : finite SD ≡ true → finite SS ≡ true → eq SS plusZero ≡ false → (z : ℕ) × Valued (SD ⊘ SS) false z
+  -- by the size of the sum of squares: 4 or more; 2^-964 or more; less
+  counted : finite (SD e (suc k)) ≡ true → finite (SS e (suc (suc k))) ≡ true → eq (SS e (suc (suc k))) plusZero ≡ false → (z : ℕ) × Valued (SD e (suc k) ⊘ SS e (suc (suc k))) false z
   counted fd fs some =
-      let a = finite-units SD fd (sum-above (λ t. squareOf (e ‼ (t + 1) ⊖ e ‼ t)) 0 k 0 keeps-none differences-above (omega arith) (differences-above 0 (omega arith))) in
-      let s = finite-units SS fs (sum-above (λ t. squareOf (e ‼ t)) 0 (suc k) 0 keeps-none squares-above (omega arith) (squares-above 0 (omega arith))) in
-      go (a .0) (a .1) (s .0) (s .1) (leb (2 ^ 1076) (s .0)) (leb→le (2 ^ 1076) (s .0)) (nleb→lt (2 ^ 1076) (s .0)) (leb (2 ^ 110) (s .0)) (leb→le (2 ^ 110) (s .0)) (nleb→lt (2 ^ 110) (s .0))
+      let a = finite-units (SD e (suc k)) fd (sum-above (λ t. squareOf (e ‼ (t + 1) ⊖ e ‼ t)) 0 k 0 keeps-none differences-above (omega arith) (differences-above 0 (omega arith))) in
+      let s = finite-units (SS e (suc (suc k))) fs (sum-above (λ t. squareOf (e ‼ t)) 0 (suc k) 0 keeps-none squares-above (omega arith) (squares-above 0 (omega arith))) in
+      go (a .0) (a .1) (s .0) (s .1) (above (s .0) (s .1) (eq-zero-or-pos (s .0))) (leb (2 ^ 1076) (s .0)) (leb→le (2 ^ 1076) (s .0)) (nleb→lt (2 ^ 1076) (s .0)) (leb (2 ^ 110) (s .0)) (leb→le (2 ^ 110) (s .0)) (nleb→lt (2 ^ 110) (s .0))
     where
-      held : T (fits binary64 SD)
-      held = unfold sumOf in add-fits binary64 (sumOf k (λ t. squareOf (e ‼ (t + 1) ⊖ e ‼ t))) (squareOf (e ‼ (k + 1) ⊖ e ‼ k))
-
-      above : (g : ℕ) → Valued SS false g → (g ≡ 0) ⊎ (0 < g) → 0 < g
-      above g v (inl z) = absurd (true≢false (sym (none-is SS (subst (λ (i : ℕ). Valued SS false i) z v)) ∙ some))
+      above : (g : ℕ) → Valued (SS e (suc (suc k))) false g → (g ≡ 0) ⊎ (0 < g) → 0 < g
+      above g v (inl z) = absurd (true≢false (sym (none-is (SS e (suc (suc k))) (subst (λ (i : ℕ). Valued (SS e (suc (suc k))) false i) z v)) ∙ some))
       above g v (inr p) = p
 
-      go : (a : ℕ) → Valued SD false a → (g : ℕ) → Valued SS false g → (x : Bool) → (T x → 2 ^ 1076 ≤ g) → (T (not x) → g < 2 ^ 1076) → (y : Bool) → (T y → 2 ^ 110 ≤ g) → (T (not y) → g < 2 ^ 110) → (z : ℕ) × Valued (SD ⊘ SS) false z
-      go a u g v true l m y n o = quotient a g u v (above g v (eq-zero-or-pos g)) (le-trans (mul-le-mul-right (2 ^ 1074) (le-of-lt (units-under SD a u held))) (le-trans (lit≤ tt) (mul-le-mul-left (2 ^ 2097) (l tt))))
-      go a u g v false l m true n o =
+      quotient : (a g : ℕ) → Valued (SD e (suc k)) false a → Valued (SS e (suc (suc k))) false g → 0 < g → a * 2 ^ 1074 ≤ 2 ^ 2097 * g → (z : ℕ) × Valued (SD e (suc k) ⊘ SS e (suc (suc k))) false z
+      quotient a g u v p h =
+          let q = round-up-to false a g 2043 (lit≤ tt) p (le-trans h (mul-le-mul-right g (lit≤ tt))) in
+          (q .0, rw (quotient-is (SD e (suc k)) (SS e (suc (suc k))) a g u v p) (q .1))
+
+      under : (a : ℕ) → Valued (SD e (suc k)) false a → a < 2 ^ 2098
+      under a u = held-rounds (SD e (suc k)) a (unfold sumOf in add-fits binary64 (SD e k) (squareOf (e ‼ (k + 1) ⊖ e ‼ k))) u .0
+
+      go : (a : ℕ) → Valued (SD e (suc k)) false a → (g : ℕ) → Valued (SS e (suc (suc k))) false g → 0 < g → (x : Bool) → (T x → 2 ^ 1076 ≤ g) → (T (not x) → g < 2 ^ 1076) → (y : Bool) → (T y → 2 ^ 110 ≤ g) → (T (not y) → g < 2 ^ 110)
+          → (z : ℕ) × Valued (SD e (suc k) ⊘ SS e (suc (suc k))) false z
+      go a u g v p true l m y n o = quotient a g u v p (le-trans (mul-le-mul-right (2 ^ 1074) (le-of-lt (under a u))) (le-trans (lit≤ tt) (mul-le-mul-left (2 ^ 2097) (l tt))))
+      go a u g v p false l m true n o =
           let d = limited 1075 1076 1022 1024 (lit≤ tt) (lit≤ tt) (lit≤ tt) (lit≤ tt) (lit≤ tt) g v (m tt) in
-          quotient (d .0) g (d .1) v (above g v (eq-zero-or-pos g)) (le-trans (mul-le-mul-right (2 ^ 1074) (d .2)) (le-trans (lit≤ tt) (mul-le-mul-left (2 ^ 2097) (n tt))))
-      go a u g v false l m false n o =
+          quotient (d .0) g (d .1) v p (le-trans (mul-le-mul-right (2 ^ 1074) (d .2)) (le-trans (lit≤ tt) (mul-le-mul-left (2 ^ 2097) (n tt))))
+      go a u g v p false l m false n o =
           let d = limited 592 110 539 58 (lit≤ tt) (lit≤ tt) (lit≤ tt) (lit≤ tt) (lit≤ tt) g v (o tt) in
-          quotient (d .0) g (d .1) v (above g v (eq-zero-or-pos g)) (le-trans (mul-le-mul-right (2 ^ 1074) (d .2)) (le-trans (lit≤ tt) (mul-le-mul-left (2 ^ 2097) (above g v (eq-zero-or-pos g)))))
+          quotient (d .0) g (d .1) v p (le-trans (mul-le-mul-right (2 ^ 1074) (d .2)) (le-trans (lit≤ tt) (mul-le-mul-left (2 ^ 2097) p)))
 
 -- of n numbers
-pub in-range : (e : List Float) (n : ℕ) → 2 ≤ n → ((t : ℕ) → t < n → Number (e ‼ t)) → finite (sumOf (n - 1) (λ t. squareOf (e ‼ (t + 1) ⊖ e ‼ t))) ≡ true
-    → finite (sumOf n (λ t. squareOf (e ‼ t))) ≡ true → eq (sumOf n (λ t. squareOf (e ‼ t))) plusZero ≡ false
-    → (z : ℕ) × Valued (sumOf (n - 1) (λ t. squareOf (e ‼ (t + 1) ⊖ e ‼ t)) ⊘ sumOf n (λ t. squareOf (e ‼ t))) false z
+pub in-range : (e : List Float) (n : ℕ) → 2 ≤ n → ((t : ℕ) → t < n → Number (e ‼ t)) → finite (SD e (n - 1)) ≡ true → finite (SS e n) ≡ true → eq (SS e n) plusZero ≡ false
+    → (z : ℕ) × Valued (SD e (n - 1) ⊘ SS e n) false z
 in-range e zero a numbers fd fs some = absurd (not-suc-le-zero a)
 in-range e (suc zero) a numbers fd fs some = absurd (not-suc-le-zero (le-of-suc-le-suc a))
 in-range e (suc (suc k)) a numbers fd fs some =

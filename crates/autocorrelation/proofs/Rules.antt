@@ -3,7 +3,7 @@
 use mathlib.Core.Path.{_≡_, refl, sym, ap, _∙_, subst}
 use mathlib.Core.Logic.{_⊎_, inl, inr, ⊎-elim}
 use Prim.Native.Nat.{ℕ, zero, suc, _+_, _-_, _*_, _^_, _≤_, _<_, zero-le}
-use native.Mathlib.Nat.{le-trans, le-of-eq, lt-of-le-of-lt, lt-of-not-le, not-le-of-lt, not-suc-le-zero, eq-or-lt-of-le, zero-mul, mul-comm, mul-assoc, mul-sub, add-le-add, sub-add-cancel}
+use native.Mathlib.Nat.{le-trans, le-of-eq, not-le-of-lt, not-suc-le-zero, eq-or-lt-of-le, zero-mul, mul-comm, mul-assoc, mul-sub, sub-add-cancel}
 use native.Mathlib.Omega.{arith}
 use mathlib.Core.Bool.{Bool, true, false, not, _&&_, _||_, cond, Bool·beq}
 use mathlib.Core.List.{List}
@@ -23,8 +23,8 @@ use Rattle.floats.proofs.FirstLaws.{none-at}
 use Rattle.autocorrelation.specs.declared.Statistic.{Statistic}
 use Rattle.autocorrelation.specs.declared.Statistic.the-variants.{Value, Empty, Single, NotFinite, ZeroSum, Overflow}
 use Rattle.autocorrelation.specs.Statistic.{squares, differences, durbinWatson, durbinWatsonAnswer, ofFound, number, value}
-use Rattle.autocorrelation.specs.Bound.{signed, exact, sized?, all?}
-use Rattle.autocorrelation.proofs.Units.{Number, exact-is, size-is, size-apart}
+use Rattle.autocorrelation.specs.Bound.{exact, sized?, all?}
+use Rattle.autocorrelation.proofs.Units.{Number, number-size, apart-is}
 use Rattle.autocorrelation.proofs.SumLaws.{Among}
 
 -- ---- the tests
@@ -107,16 +107,16 @@ accepted e d h =
 exponent : (m j : ℕ) → m < 2 ^ 53 → 2 ^ 854 ≤ m * 2 ^ j → 802 ≤ j
 exponent m j M h = let g : ¬ (53 + j ≤ 854) = λ (g : 53 + j ≤ 854). not-le-of-lt (shl-lt 53 j M) (le-trans (pow-mono g) h) in omega arith
 
-whole : (x : Float) (u : Number x) → Among (2 ^ 854) (2 ^ 1294) (natAbs (exact x)) → (q : ℕ) × (u .m * 2 ^ (u .j) ≡ q * 2 ^ 802)
-whole x u r = go (u .m) (u .j) (u .few) (subst (λ (a : ℕ). (a ≡ 0) ⊎ (2 ^ 854 ≤ a)) (size-is x (u .sign) (u .m * 2 ^ (u .j)) (u .val)) (r .from))
+whole : {x : Float} (u : Number x) → Among (2 ^ 854) (2 ^ 1294) (natAbs (exact x)) → (q : ℕ) × (u .units ≡ q * 2 ^ 802)
+whole u r = rw (u .is) (go (u .m) (u .j) (u .few) (subst (λ (a : ℕ). (a ≡ 0) ⊎ (2 ^ 854 ≤ a)) (number-size u ∙ u .is) (r .from)))
   where
     go : (m j : ℕ) → m < 2 ^ 53 → (m * 2 ^ j ≡ 0) ⊎ (2 ^ 854 ≤ m * 2 ^ j) → (q : ℕ) × (m * 2 ^ j ≡ q * 2 ^ 802)
     go m j f (inl z) = (0, z)
     go m j f (inr h) = (m * 2 ^ (j - 802), ap (λ (i : ℕ). m * 2 ^ i) (sym (sub-add-cancel (exponent m j f h))) ∙ ap (λ (i : ℕ). m * i) (pow-add 2 (j - 802) 802) ∙ sym (mul-assoc m (2 ^ (j - 802)) (2 ^ 802)))
 
-spaced : (b : Bool) (q r step : ℕ) → (v : ℕ) × (cond b (q * step - r * step + (r * step - q * step)) (q * step + r * step) ≡ v * step)
-spaced true q r step = (q - r + (r - q), omega (arith, mul-comm (q - r) step, mul-sub step q r, mul-comm (r - q) step, mul-sub step r q, mul-comm step q, mul-comm step r))
-spaced false q r step = (q + r, omega arith)
+spaced : (b : Bool) (A B q r step : ℕ) → A ≡ q * step → B ≡ r * step → (v : ℕ) × (cond b (A - B + (B - A)) (A + B) ≡ v * step)
+spaced true A B q r step f g = (q - r + (r - q), omega (arith, mul-comm (q - r) step, mul-sub step q r, mul-comm (r - q) step, mul-sub step r q, mul-comm step q, mul-comm step r))
+spaced false A B q r step f g = (q + r, omega arith)
 
 least : (v step a : ℕ) → a ≡ v * step → (a ≡ 0) ⊎ (step ≤ a)
 least zero step a e = inl (e ∙ zero-mul step)
@@ -126,15 +126,12 @@ pub most : (b : Bool) (A B H : ℕ) → A ≤ H → B ≤ H → cond b (A - B + 
 most true A B H h g = omega arith
 most false A B H h g = omega arith
 
-pub apart : (x y : Float) → Number x → Number y → Among (2 ^ 854) (2 ^ 1294) (natAbs (exact x)) → Among (2 ^ 854) (2 ^ 1294) (natAbs (exact y)) → Among (2 ^ 802) (2 ^ 1295) (natAbs (exact y -ℤ exact x))
-apart x y u v p q =
-    let A = v .m * 2 ^ (v .j) in
-    let B = u .m * 2 ^ (u .j) in
-    let a = whole y v q in
-    let b = whole x u p in
-    let s = spaced (Bool·beq (v .sign) (u .sign)) (a .0) (b .0) (2 ^ 802) in
-    let is : natAbs (exact y -ℤ exact x) ≡ cond (Bool·beq (v .sign) (u .sign)) (A - B + (B - A)) (A + B) = rw (exact-is y (v .sign) A (v .val), exact-is x (u .sign) B (u .val)) (size-apart (v .sign) (u .sign) A B) in
+pub apart : {x y : Float} → Number x → Number y → Among (2 ^ 854) (2 ^ 1294) (natAbs (exact x)) → Among (2 ^ 854) (2 ^ 1294) (natAbs (exact y)) → Among (2 ^ 802) (2 ^ 1295) (natAbs (exact y -ℤ exact x))
+apart {x} {y} u v p q =
+    let a = whole v q in
+    let b = whole u p in
+    let s = spaced (Bool·beq (v .sign) (u .sign)) (v .units) (u .units) (a .0) (b .0) (2 ^ 802) (a .1) (b .1) in
     record {
-      from = least (s .0) (2 ^ 802) (natAbs (exact y -ℤ exact x)) (is ∙ rw (a .1, b .1) (s .1));
-      up-to = le-trans (le-of-eq is) (most (Bool·beq (v .sign) (u .sign)) A B (2 ^ 1294) (rw (size-is y (v .sign) A (v .val)) at (q .up-to)) (rw (size-is x (u .sign) B (u .val)) at (p .up-to)));
+      from = least (s .0) (2 ^ 802) (natAbs (exact y -ℤ exact x)) (apart-is u v ∙ s .1);
+      up-to = le-trans (le-of-eq (apart-is u v)) (most (Bool·beq (v .sign) (u .sign)) (v .units) (u .units) (2 ^ 1294) (rw (number-size v) at (q .up-to)) (rw (number-size u) at (p .up-to)));
     }

@@ -2,13 +2,17 @@
 -- that is not finite. Each is worked out by the definition itself. Assumes nothing.
 use mathlib.Core.Path.{_≡_, refl}
 use mathlib.Core.List.{List, [], _∷_, map}
-use lib.Ieee.{Float, nan, neg, add, sub, mul, div, eq, ofBits}
+use Prim.Native.Nat.{_+_, _*_, _^_, _<_}
+use lib.Dec.{lit≤, lit<}
+use lib.IntN.{pos, natAbs, _-ℤ_, _*ℤ_}
+use lib.Ieee.{Float, nan, neg, add, sub, mul, div, eq, fits, ofBits}
 use Rattle.floats.specs.Words.{float, plusZero, one, two}
 use Rattle.floats.specs.Sums.{sumOf}
-use Rattle.floats.specs.Search.{firstBad, firstWhere}
-use Rattle.autocorrelation.specs.declared.Statistic.{Statistic}
+use Rattle.floats.specs.Search.{firstBad}
 use Rattle.autocorrelation.specs.declared.Statistic.the-variants.{Value, Single, NotFinite, ZeroSum, Overflow}
-use Rattle.autocorrelation.specs.Statistic.{durbinWatsonAnswer}
+use Rattle.autocorrelation.specs.Statistic.{durbinWatson, durbinWatsonAnswer}
+use Rattle.autocorrelation.specs.Bound.{exact, exactSum, exactSquares, exactDifferences, Accurate, all?}
+use Rattle.autocorrelation.proofs.Theorems.{answer-accurate}
 
 abbrev minusOne : Float
 minusOne = float 0xbff0000000000000
@@ -48,3 +52,15 @@ pub worked : map durbinWatsonAnswer sheets ≡
     ∷ []
 unfolding durbinWatsonAnswer firstBad sumOf add sub mul div eq neg ofBits
 worked = refl
+
+-- ---- two residuals whose statistic is 2.4 / 2^52 of D away from D: they meet the rules and the bound, and half of the bound would be false
+abbrev pair : List Float
+pair = float 0xbfcea0356e3b9ef4 ∷ float 0xbff6a720165b395f ∷ []
+
+pub pair-accurate : Accurate 2 (float 0x3fe57c0ee4b2a110) (exactDifferences pair) (exactSquares pair)
+unfolding durbinWatsonAnswer firstBad sumOf add sub mul div eq neg ofBits all? fits
+pair-accurate = answer-accurate pair (float 0x3fe57c0ee4b2a110) refl (lit≤ tt) tt tt tt
+
+pub past-half : (2 + 2) * (exactDifferences pair * 2 ^ 1074) < natAbs (exact (durbinWatson pair) *ℤ pos (exactSquares pair) -ℤ pos (exactDifferences pair * 2 ^ 1074)) * 2 ^ 53
+unfolding sumOf add sub mul div neg ofBits exactSum
+past-half = lit< tt

@@ -1,22 +1,21 @@
 -- A float sum of k + 1 terms that are not negative, each within m roundings of an exact term, is within m + k roundings of the exact sum: each addition but the
 -- first, which is from -0, rounds once. One law for any terms. Assumes nothing.
-use mathlib.Core.Path.{_≡_, refl, sym, ap, _∙_, subst}
+use mathlib.Core.Path.{_≡_, refl, subst}
 use mathlib.Core.Logic.{_⊎_, inl, inr}
 use Prim.Native.Nat.{ℕ, zero, suc, _+_, _*_, _^_, _≤_, _<_, zero-le}
 use native.Mathlib.Nat.{le-refl, le-trans, le-step, lt-of-le-of-lt, le-add-right, zero-add, add-zero, add-mul, add-suc, mul-le-mul-right, le-of-mul-le-mul-right}
 use native.Mathlib.Omega.{arith}
-use mathlib.Core.Bool.{Bool, false}
-use lib.Dec.{T, lit≤, lit<}
+use mathlib.Core.Bool.{false}
+use mathlib.Core.List.{List}
+use lib.Dec.{T, lit<}
 use lib.Pow.{pow-pos}
-use lib.Ieee.{Float, nan, inf, fin, binary64, round, fits}
-use lib.Ieee.Exact.{round-exact}
-use lib.Ieee.Scale.{finite}
-use Rattle.floats.specs.Words.{_⊕_, minusZero}
+use lib.Ieee.{Float, binary64, fits}
+use Rattle.floats.specs.Words.{_⊕_, _⊖_, _‼_, minusZero, squareOf}
 use Rattle.floats.specs.Sums.{sumOf}
-use Rattle.autocorrelation.specs.Bound.{exactSum}
+use Rattle.autocorrelation.specs.Bound.{exact, exactDifference, squared, exactSum}
 use Rattle.autocorrelation.proofs.Close.{Close, close-add, close-more, close-times, close-trans, close-double}
 use Rattle.autocorrelation.proofs.Rounding.{Valued, round-whole}
-use Rattle.autocorrelation.proofs.Units.{plus-is, start-is, Number, number, size-is, valued-finite}
+use Rattle.autocorrelation.proofs.Units.{plus-is, start-is, held-rounds}
 
 -- x is g units and not negative, and within k roundings of X, which counts units of 2^-2148
 pub record Term (k : ℕ) (x : Float) (X : ℕ) : Type 0 where
@@ -27,16 +26,7 @@ pub record Term (k : ℕ) (x : Float) (X : ℕ) : Type 0 where
 -- ---- the first term, and one more
 
 first : (k : ℕ) (x : Float) (X : ℕ) → T (fits binary64 x) → Term k x X → Term k (minusZero ⊕ x) X
-first k x X h a =
-    let u = number x (valued-finite x false (a .g) (a .val)) h in
-    let is : a .g ≡ u .m * 2 ^ (u .j) = sym (size-is x false (a .g) (a .val)) ∙ size-is x (u .sign) (u .m * 2 ^ (u .j)) (u .val) in
-    record {
-      g = a .g;
-      val =
-          subst (λ (z : Float). Valued z false (a .g)) (sym (start-is x (a .g) (a .val)))
-          (round-exact binary64 false (a .g) (2 ^ 1074) (u .m) (u .j) (pow-pos 1074) (u .few) (u .under) (ap (λ (z : ℕ). z * 2 ^ 1074) is));
-      near = a .near;
-    }
+first k x X h a = record { g = a .g; val = rw (start-is x (a .g) (a .val)) (held-rounds x (a .g) h (a .val) .1); near = a .near }
 
 -- far from overflow
 short : (k g X : ℕ) → k ≤ 2 ^ 52 → X ≤ 2 ^ 2700 → Close k (g * 2 ^ 1074) X → g < 2 ^ 2097
@@ -76,3 +66,16 @@ sum-among lo hi X (suc n) each =
     either S Z (inl p) (inl q) = inl (omega arith)
     either S Z (inr p) q = inr (omega arith)
     either S Z (inl p) (inr q) = inr (omega arith)
+
+-- ---- the sums of the statistic, of k terms: computed, and exact
+abbrev pub SD : List Float → ℕ → Float
+SD e k = sumOf k (λ t. squareOf (e ‼ (t + 1) ⊖ e ‼ t))
+
+abbrev pub SS : List Float → ℕ → Float
+SS e k = sumOf k (λ t. squareOf (e ‼ t))
+
+abbrev pub exactSD : List Float → ℕ → ℕ
+exactSD e k = exactSum k (λ t. squared (exactDifference e t))
+
+abbrev pub exactSS : List Float → ℕ → ℕ
+exactSS e k = exactSum k (λ t. squared (exact (e ‼ t)))

@@ -2,16 +2,16 @@
 -- that binary64 holds is such a whole number, of 53 digits and some zeros. Assumes nothing.
 use mathlib.Core.Path.{_≡_, refl, sym, ap, _∙_, subst}
 use Prim.Native.Nat.{ℕ, zero, suc, _+_, _-_, _*_, _/_, _%_, _^_, _≤_, _<_}
-use native.Mathlib.Nat.{le-trans, le-of-eq, le-of-lt, lt-of-le-of-lt, lt-of-lt-of-le, lt-irrefl, not-le-of-lt, zero-lt-suc, add-zero, add-mul, zero-mul, zero-div, one-mul, mul-comm, mul-assoc, mul-one, mul-right-comm, mul-mul-mul-comm, mul-sub, mul-pos, mul-le-mul-right, mul-lt-mul-of-pos-right, le-of-mul-le-mul-right, lt-of-mul-lt-mul-right, eq-of-mul-eq-mul-right, mul-div-cancel, sub-add-cancel, sub-zero}
+use native.Mathlib.Nat.{le-trans, le-of-eq, lt-of-le-of-lt, lt-of-lt-of-le, lt-irrefl, not-le-of-lt, zero-lt-suc, zero-mul, one-mul, mul-comm, mul-assoc, mul-one, mul-right-comm, mul-mul-mul-comm, mul-sub, mul-pos, mul-le-mul-right, mul-lt-mul-of-pos-right, le-of-mul-le-mul-right, lt-of-mul-lt-mul-right, eq-of-mul-eq-mul-right, mul-div-cancel, sub-add-cancel, sub-zero}
 use native.Mathlib.Omega.{arith}
 use mathlib.Core.Bool.{Bool, true, false, not, _&&_, Bool·beq, cond, true≢false}
-use lib.IntN.{ℤ, pos, negsuc, negℤ, natAbs, _+ℤ_, _-ℤ_, subℕ, negℤ-negℤ, negℤ-+ℤ, +ℤ-comm}
+use lib.IntN.{ℤ, pos, negsuc, negℤ, natAbs, _+ℤ_, _-ℤ_, negℤ-negℤ, negℤ-+ℤ}
 use lib.Dec.{T, ltb, leb, eqb, ltb→lt, leb→le, nltb→le, eqb→eq, lit<}
 use lib.Pow.{pow-add, pow-pos, pow-lt}
 use borrow.Author.Tests.{eq-eqb, lt-ltb, le-ltb}
 use lib.Ieee.{Float, nan, inf, fin, binary64, up, down, unlike, round, sum, add, sub, mul, div, neg, eq, fits, ofBits}
 use lib.Ieee.Fits.{up-pos, down-pos, and-l, and-r}
-use lib.Ieee.Exact.{HasValue}
+use lib.Ieee.Exact.{round-exact}
 use lib.Ieee.Scale.{round-same, finite}
 use lib.Ieee.Positive.{first-pos}
 use Rattle.floats.specs.Words.{_⊕_, _⊖_, _⊗_, _⊘_, plusZero, minusZero}
@@ -48,7 +48,7 @@ module _ (L : ℕ) (LP : 0 < L) where
       )
 
 -- ---- sums and differences
-pub add-is : (x y : Float) (s t : Bool) (A B : ℕ) → Valued x s A → Valued y t B → x ⊕ y ≡ sum binary64 s A t B (2 ^ 1074)
+add-is : (x y : Float) (s t : Bool) (A B : ℕ) → Valued x s A → Valued y t B → x ⊕ y ≡ sum binary64 s A t B (2 ^ 1074)
 unfolding add
 add-is nan y s t A B p q = absurd p
 add-is (inf r) y s t A B p q = absurd p
@@ -91,7 +91,7 @@ abs-minus A (suc b) = go (ltb A (suc b)) (ltb→lt A (suc b)) (nltb→le A (suc 
     go false h g = omega (arith, g tt)
 
 -- of two numbers with signs: the sizes add up where the signs differ
-pub size-apart : (s t : Bool) (A B : ℕ) → natAbs (signed s A -ℤ signed t B) ≡ cond (Bool·beq s t) (A - B + (B - A)) (A + B)
+size-apart : (s t : Bool) (A B : ℕ) → natAbs (signed s A -ℤ signed t B) ≡ cond (Bool·beq s t) (A - B + (B - A)) (A + B)
 size-apart false false A B = abs-minus A B
 size-apart true true A B = ap natAbs (sym (negℤ-+ℤ (pos A) (negℤ (pos B)))) ∙ abs-neg (pos A -ℤ pos B) ∙ abs-minus A B
 size-apart false true A B = ap (λ (z : ℤ). natAbs (pos A +ℤ z)) (negℤ-negℤ (pos B))
@@ -112,13 +112,13 @@ difference true true A B = apart A B false (ltb B A)
 difference false true A B = (false, refl)
 difference true false A B = (true, refl)
 
-pub minus-is : (x y : Float) (s t : Bool) (A B : ℕ) → Valued x s A → Valued y t B → (k : Bool) × (x ⊖ y ≡ round binary64 k (natAbs (signed s A -ℤ signed t B)) (2 ^ 1074))
+minus-is : (x y : Float) (s t : Bool) (A B : ℕ) → Valued x s A → Valued y t B → (k : Bool) × (x ⊖ y ≡ round binary64 k (cond (Bool·beq s t) (A - B + (B - A)) (A + B)) (2 ^ 1074))
 unfolding sub neg
 minus-is x nan s t A B p q = absurd q
 minus-is x (inf w) s t A B p q = absurd q
 minus-is x (fin w n d) s t A B p q =
     let z = difference s t A B in
-    (z .0, rw (size-apart s t A B) (add-is x (fin (not w) n d) s (not t) A B p (ap not (q .0), q .1) ∙ z .1))
+    (z .0, add-is x (fin (not w) n d) s (not t) A B p (ap not (q .0), q .1) ∙ z .1)
 
 -- ---- squares and quotients
 like : (s : Bool) → unlike s s ≡ false
@@ -162,14 +162,43 @@ quotient-is (fin false m e) (fin false n d) A B p q b = go (eqb n 0) (eqb→eq n
         round-same binary64 false (m * up e * down d) (n * up d * down e) A B (mul-pos (mul-pos N (up-pos d)) (down-pos e)) b
         (over (m * up e) (n * up d) (down e) (down d) (2 ^ 1074) (pow-pos 1074) (p .1) (q .1))
 
--- ---- every finite value that binary64 holds: m * 2 ^ j units, m of 53 digits
+-- ---- a value tells its units
+exact-is : (x : Float) (s : Bool) (A : ℕ) → Valued x s A → exact x ≡ signed s A
+exact-is nan s A v = absurd v
+exact-is (inf r) s A v = absurd v
+exact-is (fin r m e) s A v = ap (λ (z : ℕ). signed r (z / down e)) (v .1) ∙ ap (signed r) (mul-div-cancel A (down-pos e)) ∙ ap (λ (z : Bool). signed z A) (v .0)
+
+pub plus-exact : (x : Float) (A : ℕ) → Valued x false A → exact x ≡ pos A
+plus-exact x A v = exact-is x false A v
+
+pub size-is : (x : Float) (s : Bool) (A : ℕ) → Valued x s A → natAbs (exact x) ≡ A
+size-is x s A v = ap natAbs (exact-is x s A v) ∙ go s
+  where
+    go : (s : Bool) → natAbs (signed s A) ≡ A
+    go true = abs-neg (pos A)
+    go false = refl
+
+pub valued-finite : (x : Float) (s : Bool) (A : ℕ) → Valued x s A → T (finite x)
+valued-finite nan s A v = v
+valued-finite (inf r) s A v = v
+valued-finite (fin r m e) s A v = tt
+
+pub none-is : (x : Float) → Valued x false 0 → eq x plusZero ≡ true
+unfolding eq ofBits
+none-is nan v = absurd v
+none-is (inf r) v = absurd v
+none-is (fin r m e) v = rw (v .0, zero-mul (down e), eq-eqb (m * up e * 1) 0 (mul-one (m * up e) ∙ eq-of-mul-eq-mul-right (2 ^ 1074) (pow-pos 1074) (m * up e) 0 (v .1 ∙ zero-mul (down e))))
+
+-- ---- every finite value that binary64 holds is a whole number of units: m of 53 digits, and j zeros
 pub record Number (x : Float) : Type 0 where
   pub sign : Bool
+  pub units : ℕ
+  pub val : Valued x sign units
   pub m : ℕ
   pub j : ℕ
+  pub is : units ≡ m * 2 ^ j
   pub few : m < 2 ^ 53
   pub under : m * 2 ^ j < 2 ^ 2098
-  pub val : Valued x sign (m * 2 ^ j)
 
 exponent : (e : ℤ) (l : ℕ) → down e ≤ 2 ^ l → (j : ℕ) × (up e * 2 ^ l ≡ 2 ^ j * down e)
 exponent (pos k) l h = (k + l, sym (pow-add 2 k l) ∙ sym (mul-one (2 ^ (k + l))))
@@ -184,11 +213,13 @@ number nan t h = absurd t
 number (inf s) t h = absurd t
 number (fin s zero e) t h = record {
   sign = s;
+  units = 0;
+  val = (refl, ap (λ (z : ℕ). z * 2 ^ 1074) (zero-mul (up e)) ∙ sym (zero-mul (down e)));
   m = 0;
   j = 0;
+  is = refl;
   few = lit< tt;
   under = lit< tt;
-  val = (refl, ap (λ (z : ℕ). z * 2 ^ 1074) (zero-mul (up e)) ∙ sym (zero-mul (down e)));
 }
 number (fin s (suc m) e) t h =
     let a : Bool = eqb (suc m % 2) 1 in
@@ -199,11 +230,13 @@ number (fin s (suc m) e) t h =
     let v : suc m * up e * 2 ^ 1074 ≡ suc m * 2 ^ (x .0) * down e = whole (suc m) (up e) (2 ^ 1074) (2 ^ (x .0)) (x .1) in
     record {
       sign = s;
+      units = suc m * 2 ^ (x .0);
+      val = (refl, v);
       m = suc m;
       j = x .0;
+      is = refl;
       few = ltb→lt (suc m) (2 ^ 53) (and-r a b (and-l (a && b) c (and-l (a && b && c) d h)));
       under = below (suc m * up e) (2 ^ 1074) (2 ^ 1024) (suc m * 2 ^ (x .0)) (pow-pos 1074) v (ltb→lt (suc m * up e) (2 ^ 1024 * down e) (and-r (a && b && c) d h));
-      val = (refl, v);
     }
   where
     whole : (m u L r : ℕ) → u * L ≡ r * down e → m * u * L ≡ m * r * down e
@@ -212,27 +245,22 @@ number (fin s (suc m) e) t h =
     below : (x L M W : ℕ) → 0 < L → x * L ≡ W * down e → x < M * down e → W < M * L
     below x L M W P h l = lt-of-mul-lt-mul-right (down e) (lt-of-le-of-lt (le-of-eq (sym h)) (lt-of-lt-of-le (mul-lt-mul-of-pos-right l P) (le-of-eq (mul-right-comm M (down e) L))))
 
--- ---- a value tells its units
+pub number-size : {x : Float} (u : Number x) → natAbs (exact x) ≡ u .units
+number-size {x} u = size-is x (u .sign) (u .units) (u .val)
 
-pub exact-is : (x : Float) (s : Bool) (A : ℕ) → Valued x s A → exact x ≡ signed s A
-exact-is nan s A v = absurd v
-exact-is (inf r) s A v = absurd v
-exact-is (fin r m e) s A v = ap (λ (z : ℕ). signed r (z / down e)) (v .1) ∙ ap (signed r) (mul-div-cancel A (down-pos e)) ∙ ap (λ (z : Bool). signed z A) (v .0)
+-- a value that binary64 holds is the rounding of its units
+pub held-rounds : (x : Float) (g : ℕ) → T (fits binary64 x) → Valued x false g → (g < 2 ^ 2098) × Valued (round binary64 false g (2 ^ 1074)) false g
+held-rounds x g h v =
+    let u = number x (valued-finite x false g v) h in
+    let is : g ≡ u .m * 2 ^ (u .j) = sym (size-is x false g v) ∙ number-size u ∙ u .is in
+    (lt-of-le-of-lt (le-of-eq is) (u .under), round-exact binary64 false g (2 ^ 1074) (u .m) (u .j) (pow-pos 1074) (u .few) (u .under) (ap (λ (z : ℕ). z * 2 ^ 1074) is))
 
-pub size-is : (x : Float) (s : Bool) (A : ℕ) → Valued x s A → natAbs (exact x) ≡ A
-size-is x s A v = ap natAbs (exact-is x s A v) ∙ abs-signed s
-  where
-    abs-signed : (s : Bool) → natAbs (signed s A) ≡ A
-    abs-signed true = abs-neg (pos A)
-    abs-signed false = refl
+-- the difference of two
+module _ {x y : Float} (u : Number x) (v : Number y) where
+  pub apart-is : natAbs (exact y -ℤ exact x) ≡ cond (Bool·beq (v .sign) (u .sign)) (v .units - u .units + (u .units - v .units)) (v .units + u .units)
+  apart-is = rw (exact-is y (v .sign) (v .units) (v .val), exact-is x (u .sign) (u .units) (u .val)) (size-apart (v .sign) (u .sign) (v .units) (u .units))
 
-pub valued-finite : (x : Float) (s : Bool) (A : ℕ) → Valued x s A → T (finite x)
-valued-finite nan s A v = v
-valued-finite (inf r) s A v = v
-valued-finite (fin r m e) s A v = tt
-
-pub none-is : (x : Float) → Valued x false 0 → eq x plusZero ≡ true
-unfolding eq ofBits
-none-is nan v = absurd v
-none-is (inf r) v = absurd v
-none-is (fin r m e) v = rw (v .0, zero-mul (down e), eq-eqb (m * up e * 1) 0 (mul-one (m * up e) ∙ eq-of-mul-eq-mul-right (2 ^ 1074) (pow-pos 1074) (m * up e) 0 (v .1 ∙ zero-mul (down e))))
+  pub difference-is : (k : Bool) × (y ⊖ x ≡ round binary64 k (natAbs (exact y -ℤ exact x)) (2 ^ 1074))
+  difference-is =
+      let d = minus-is y x (v .sign) (u .sign) (v .units) (u .units) (v .val) (u .val) in
+      (d .0, d .1 ∙ ap (λ (n : ℕ). round binary64 (d .0) n (2 ^ 1074)) (sym apart-is))

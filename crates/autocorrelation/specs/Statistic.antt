@@ -2,7 +2,7 @@
 -- A run is a list of binary64 values, numbered from 0; ⊖, ⊗ and ⊘ round once, and sums run first to last from -0 (crate floats).
 -- Definitions only. Assumes nothing.
 use Prim.Native.Nat.{ℕ, _+_, _-_}
-use mathlib.Core.Bool.{Bool, true, false, cond, _&&_}
+use mathlib.Core.Bool.{cond, _&&_}
 use mathlib.Core.List.{List}
 use lib.ListN.{length}
 use lib.Dec.{eqb}

@@ -24,6 +24,7 @@ fn sum_squared_differences(e: &[f64]) -> f64
     let mut s = -0.0f64;
     for t in 0..e.len() - 1 {
         let d = e[t + 1] - e[t];
+        // the Rust's powi(2): one product
         s = s + d * d;
     }
     s

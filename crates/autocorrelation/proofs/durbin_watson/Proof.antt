@@ -1,9 +1,20 @@
-use Rattle.autocorrelation.specs.Statistic.{durbinWatsonAnswer}
+-- `durbin_watson` gives what its definition says: at each return the definition is rewritten by the tests that led there. Assumes nothing.
+use Rattle.autocorrelation.specs.Statistic.{durbinWatsonAnswer, ofFound}
+use Rattle.floats.specs.Search.{firstBad}
+use Rattle.floats.specs.declared.search.Found.{Found}
 use borrow.Author.Tests.{eq-eqb, ne-eqb, not-true, not-false}
-use mathlib.Core.Path.{_≡_, refl, sym, _∙_}
+use mathlib.Core.Path.{_≡_}
+use mathlib.Core.List.{List}
+use lib.Ieee.{Float}
+use lib.ListN.{length}
 use borrow.Author.Needs.{needs}
 use Rattle.autocorrelation.proofs.durbin_watson.Statement.{statement}
 use Rattle.autocorrelation.proofs.durbin_watson.Tie as tie
+
+-- past the counts
+counted : (e : List Float) (f : Found) → (length e ≡ 0 → ⊥) → (length e ≡ 1 → ⊥) → f ≡ firstBad e → durbinWatsonAnswer e ≡ ofFound f e
+unfolding durbinWatsonAnswer
+counted e f p q h = rw (ne-eqb (length e) 0 p, ne-eqb (length e) 1 q, h)
 
 returns : tie.Need-returns
 unfolding durbinWatsonAnswer
@@ -14,20 +25,15 @@ unfolding durbinWatsonAnswer
 returns-2 c = rw (ne-eqb _ _ (c .before .if1 .left), eq-eqb _ _ (c .if2 .taken))
 
 returns-3 : tie.Need-returns-3
-unfolding durbinWatsonAnswer
-returns-3 c = rw (ne-eqb _ _ (c .before .before .before .before .before .if1 .left), ne-eqb _ _ (c .before .before .before .before .if2 .left), ← c .before .before .before .first-bad .ensures, c .before .t .given .1)
+returns-3 c = rw (counted _ _ (c .before .before .before .before .before .if1 .left) (c .before .before .before .before .if2 .left) (c .before .before .before .first-bad .ensures), c .before .t .given .1)
 
 returns-4 : tie.Need-returns-4
-unfolding durbinWatsonAnswer
-returns-4 c = rw (ne-eqb _ _ (c .before .before .before .before .before .before .if1 .left), ne-eqb _ _ (c .before .before .before .before .before .if2 .left), ← c .before .before .before .before .first-bad .ensures, c .before .before .enum-told .given .1, ← c .before .sum-squares .ensures, c .if3 .taken)
+returns-4 c = rw (counted _ _ (c .before .before .before .before .before .before .if1 .left) (c .before .before .before .before .before .if2 .left) (c .before .before .before .before .first-bad .ensures), c .before .before .enum-told .given .1, ← c .before .sum-squares .ensures, c .if3 .taken)
 
 returns-5 : tie.Need-returns-5
-unfolding durbinWatsonAnswer
 returns-5 c =
     rw (
-      ne-eqb _ _ (c .before .before .before .before .before .before .before .before .if1 .left),
-      ne-eqb _ _ (c .before .before .before .before .before .before .before .if2 .left),
-      ← c .before .before .before .before .before .before .first-bad .ensures,
+      counted _ _ (c .before .before .before .before .before .before .before .before .if1 .left) (c .before .before .before .before .before .before .before .if2 .left) (c .before .before .before .before .before .before .first-bad .ensures),
       c .before .before .before .before .enum-told .given .1,
       ← c .before .before .before .sum-squares .ensures,
       c .before .before .if3 .left,
@@ -36,12 +42,9 @@ returns-5 c =
     )
 
 returns-6 : tie.Need-returns-6
-unfolding durbinWatsonAnswer
 returns-6 c =
     rw (
-      ne-eqb _ _ (c .before .before .before .before .before .before .before .before .before .before .before .if1 .left),
-      ne-eqb _ _ (c .before .before .before .before .before .before .before .before .before .before .if2 .left),
-      ← c .before .before .before .before .before .before .before .before .before .first-bad .ensures,
+      counted _ _ (c .before .before .before .before .before .before .before .before .before .before .before .if1 .left) (c .before .before .before .before .before .before .before .before .before .before .if2 .left) (c .before .before .before .before .before .before .before .before .before .first-bad .ensures),
       c .before .before .before .before .before .before .before .enum-told .given .1,
       ← c .before .before .before .before .before .before .sum-squares .ensures,
       c .before .before .before .before .before .if3 .left,
@@ -53,12 +56,9 @@ returns-6 c =
     )
 
 returns-7 : tie.Need-returns-7
-unfolding durbinWatsonAnswer
 returns-7 c =
     rw (
-      ne-eqb _ _ (c .before .before .before .before .before .before .before .before .before .before .before .if1 .left),
-      ne-eqb _ _ (c .before .before .before .before .before .before .before .before .before .before .if2 .left),
-      ← c .before .before .before .before .before .before .before .before .before .first-bad .ensures,
+      counted _ _ (c .before .before .before .before .before .before .before .before .before .before .before .if1 .left) (c .before .before .before .before .before .before .before .before .before .before .if2 .left) (c .before .before .before .before .before .before .before .before .before .first-bad .ensures),
       c .before .before .before .before .before .before .before .enum-told .given .1,
       ← c .before .before .before .before .before .before .sum-squares .ensures,
       c .before .before .before .before .before .if3 .left,
