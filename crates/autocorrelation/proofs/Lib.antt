@@ -1,0 +1,10 @@
+pub mod Close
+pub mod Rounding
+pub mod Units
+pub mod SumLaws
+pub mod Accuracy
+pub mod Rules
+pub mod Powers
+pub mod Range
+pub mod Theorems
+pub mod Sheets

@@ -1,0 +1,2 @@
+pub mod Statistic
+pub mod Bound

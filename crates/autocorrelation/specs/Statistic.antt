@@ -1,0 +1,65 @@
+-- The Durbin-Watson statistic of a run of residuals e, and what `durbin_watson` answers, refusals with the rest (Durbin and Watson 1950; document 01, refusals 5 to 9).
+-- A run is a list of binary64 values, numbered from 0; ⊖, ⊗ and ⊘ round once, and sums run first to last from -0 (crate floats).
+-- Definitions only. Assumes nothing.
+use Prim.Native.Nat.{ℕ, _+_, _-_}
+use mathlib.Core.Bool.{cond, _&&_}
+use mathlib.Core.List.{List}
+use lib.ListN.{length}
+use lib.Dec.{eqb}
+use lib.Ieee.{Float, eq}
+use lib.Ieee.Scale.{finite}
+use Rattle.floats.specs.Words.{_⊖_, _⊘_, _‼_, plusZero, squareOf}
+use Rattle.floats.specs.Sums.{sumOf, sumSquares}
+use Rattle.floats.specs.Search.{firstBad}
+use Rattle.floats.specs.declared.search.Found.{Found}
+use Rattle.floats.specs.declared.search.Found.the-variants.{At, Nothing}
+use Rattle.autocorrelation.specs.declared.Statistic.{Statistic}
+use Rattle.autocorrelation.specs.declared.Statistic.the-variants.{Value, Empty, Single, NotFinite, ZeroSum, Overflow}
+
+-- the sum of (e t - e (t - 1))² for t from 1 to n - 1
+abbrev pub differences : List Float → Float
+differences e = sumOf (length e - 1) (λ t. squareOf (e ‼ (t + 1) ⊖ e ‼ t))
+
+-- the sum of (e t)² for t from 0 to n - 1
+abbrev pub squares : List Float → Float
+squares e = sumSquares e
+
+-- Durbin and Watson's d
+abbrev pub durbinWatson : List Float → Float
+durbinWatson e = differences e ⊘ squares e
+
+-- of two residuals or more, the first that is not finite being found or not
+abbrev pub ofFound : Found → List Float → Statistic
+ofFound (At t) e = NotFinite t
+ofFound Nothing e =
+    cond (eq (squares e) plusZero) ZeroSum
+    (cond (finite (squares e) && finite (differences e)) (Value (durbinWatson e)) Overflow)
+
+-- the first refusal that applies, else the statistic
+unfoldable pub durbinWatsonAnswer : List Float → Statistic
+durbinWatsonAnswer e = cond (eqb (length e) 0) Empty (cond (eqb (length e) 1) Single (ofFound (firstBad e) e))
+
+-- document 01's number for an answer, 0 where a statistic is given; its place; and the statistic, +0 where there is none
+abbrev pub number : Statistic → ℕ
+number (Value d) = 0
+number Empty = 5
+number Single = 6
+number (NotFinite t) = 7
+number ZeroSum = 8
+number Overflow = 9
+
+abbrev pub place : Statistic → ℕ
+place (Value d) = 0
+place Empty = 0
+place Single = 0
+place (NotFinite t) = t
+place ZeroSum = 0
+place Overflow = 0
+
+abbrev pub value : Statistic → Float
+value (Value d) = d
+value Empty = plusZero
+value Single = plusZero
+value (NotFinite t) = plusZero
+value ZeroSum = plusZero
+value Overflow = plusZero
