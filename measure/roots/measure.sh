@@ -1,6 +1,6 @@
 #!/bin/sh
 # Measures sqrt and hypot of crates/roots, as they stand in src/, against the platform's square root and MPFR, and prints the table of
-# README.md. Usage: measure.sh [COUNT]   (patterns, and pairs a family; 1000000 unless said: about two minutes)
+# README.md. Usage: measure.sh [COUNT]   (patterns, and pairs a family; 1000000 unless said: about twenty seconds)
 # Needs rustc, a C compiler, MPFR with its header (Debian: libmpfr-dev) and python3. Writes below target/ only.
 set -eu
 count=${1:-1000000}
