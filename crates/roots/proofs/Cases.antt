@@ -51,6 +51,7 @@ infinite (inf false) F h e = refl
 infinite (fin true m d) F h e = absurd (false≢true h)
 infinite (fin false m d) F h e = absurd (omega (arith, below-top (fin false m d) F tt refl))
 
+-- the root of a units
 pub sqrt-units : (x : Float) (a : ℕ) → 0 < a → HasValue x false a (2 ^ 1074) → sqrtOf x ≡ rootOf (a * 2 ^ 1074)
 unfolding sqrtOf
 sqrt-units nan a p h = absurd h
@@ -62,6 +63,7 @@ sqrt-units (fin s zero e) a p h = absurd (none (up e) (2 ^ 1074) (a * down e) (m
 sqrt-units (fin true (suc m) e) a p h = absurd (true≢false (h .0))
 sqrt-units (fin false (suc m) e) a p h = ap (λ (n : ℕ). rootOf (n * 2 ^ 1074)) (ap (λ (n : ℕ). n / down e) (h .1) ∙ mul-div-cancel a (down-pos e))
 
+-- x is finite and above zero, with the pattern b
 pub record Positive (x : Float) (b : ℕ) : Type 0 where
   pub some : 0 < b
   pub below : b < top
@@ -95,6 +97,7 @@ normal b n =
     let q : 2 ^ 52 + b % 2 ^ 52 ≡ b - k * 2 ^ 52 = omega arith in
     rw (e, q, pow-add 2 k 1074) (sym (mul-assoc (b - k * 2 ^ 52) (2 ^ k) (2 ^ 1074)))
 
+-- t, shifted by z so that its highest digit stands at bit 52
 pub record Shift (t z : ℕ) : Type 0 where
   pub zeros : 11 ≤ leadingZeros 64 t
   pub most : z ≤ 52

@@ -6,7 +6,7 @@ use Prim.Native.Nat.{ℕ, zero, suc, _+_, _-_, _*_, _/_, _%_, _^_, _≤_, _<_}
 use native.Mathlib.Nat.{eq-or-lt-of-le, le-of-suc-le-suc, lt-trans, pow-succ', eq-of-mul-eq-mul-right}
 use native.Mathlib.Omega.{arith}
 use mathlib.Core.Bool.{Bool, true, false, not, cond}
-use lib.Dec.{T, leb, ltb, eqb, ltb→lt, nltb→le}
+use lib.Dec.{T, leb, ltb, eqb}
 use borrow.Author.Tests.{lt-leb, leb-false, ne-eqb, eqb-false}
 use lib.Arith.{le→nltb}
 use lib.Pow.{pow-pos}
@@ -24,7 +24,7 @@ use Rattle.roots.proofs.Squares.{side}
 abbrev pub top : ℕ
 top = 0x7ff0_0000_0000_0000
 
--- k digits dropped, and those that are kept: b is k * 2 ^ 52 + q
+-- how many digits are dropped, k, and the value in units: b is k * 2 ^ 52 + q, with the digits q
 abbrev pub dropped : ℕ → ℕ
 dropped b = b / 2 ^ 52 - 1
 
@@ -54,6 +54,7 @@ place q k l h = elim (eq-or-lt-of-le h) [ inl e ↦ carried e | inr g ↦ plain 
         let d : k * 2 ^ 52 + q - suc k * 2 ^ 52 ≡ 2 ^ 52 = omega arith in
         rw (e, d, g) (omega (arith, pow-succ' 2 k))
 
+-- the next value has the next digits, or a carry
 pub above : (b : ℕ) → unitsOf (suc b) ≡ (b - dropped b * 2 ^ 52 + 1) * 2 ^ dropped b
 above b =
     let q = b - dropped b * 2 ^ 52 in
@@ -107,7 +108,7 @@ below-top x F h m =
     let f = fields-finite (leb (2 ^ 63) b) (b % 2 ^ 63 / 2 ^ 52) (b % 2 ^ 52) (rw (← ofBits-is b, ofBits-toBits binary64 x F) h) in
     omega (arith, leb-false (2 ^ 63) b (sign-bit x F ∙ m))
 
-pub signs : (v : Float) (a c : ℕ) → HasValue v false a c → T (finite v) × (minus v ≡ false)
+signs : (v : Float) (a c : ℕ) → HasValue v false a c → T (finite v) × (minus v ≡ false)
 unfolding minus
 signs nan a c h = absurd h
 signs (inf s) a c h = absurd h
@@ -134,6 +135,7 @@ rung y Y h =
     let u = below-top y (h .0) (v .0) (v .1) in
     record { below = u; value = sym (ofBits-toBits binary64 y (h .0)); units = own-units y Y (unitsOf (toBits binary64 y)) (h .1) (own-value y (h .0) u) }
 
+-- back: each pattern below infinity's is such a value's, and is written as it was read
 pub holds : (b : ℕ) → b < top → Holds (ofBits binary64 b) (unitsOf b)
 holds b u = (ofBits-fits binary64 b, pattern-value b u)
 
@@ -150,7 +152,7 @@ level b c e =
     let g : c < b → ⊥ = λ h. omega (arith, rising c b h) in
     omega arith
 
-pub same : (y z : Float) (Y : ℕ) → Holds y Y → Holds z Y → y ≡ z
+same : (y z : Float) (Y : ℕ) → Holds y Y → Holds z Y → y ≡ z
 same y z Y h k =
     let r = rung y Y h in
     let s = rung z Y k in

@@ -1,7 +1,7 @@
 -- Whole-number squares, and the walk of `root` through a root's digits. Nothing here is about floats. Assumes nothing.
 use mathlib.Core.Path.{_≡_, ap, _∙_}
 use Prim.Native.Nat.{ℕ, zero, suc, _+_, _-_, _*_, _/_, _^_, _≤_, _<_, zero-le}
-use native.Mathlib.Nat.{le-antisymm, lt-of-not-le, not-le-of-lt, lt-of-le-of-lt, lt-irrefl, mul-le-mul, mul-le-mul-left, mul-lt-mul-of-pos-right, le-of-lt, pow-succ'}
+use native.Mathlib.Nat.{lt-of-not-le, not-le-of-lt, lt-of-le-of-lt, lt-irrefl, mul-le-mul, mul-le-mul-left, mul-lt-mul-of-pos-right, le-of-lt, pow-succ'}
 use native.Mathlib.Omega.{arith}
 use mathlib.Core.Logic.{_⊎_, inl, inr}
 use mathlib.Core.Bool.{Bool, true, false, not}
@@ -9,7 +9,6 @@ use lib.Dec.{T, ltb, ltb→lt, nltb→le}
 use lib.Pow.{pow-pos}
 use Rattle.roots.specs.Root.{IsRoot}
 
--- ---- numbers
 pub side : (a b : ℕ) → (a < b) ⊎ (b ≤ a)
 side a b = go (ltb a b) (ltb→lt a b) (nltb→le a b)
   where
@@ -24,18 +23,15 @@ sq-le h = mul-le-mul h h
 pub sq-lt : {a b : ℕ} → a < b → a * a < b * b
 sq-lt {a} {b} h = lt-of-le-of-lt (mul-le-mul-left a (le-of-lt h)) (mul-lt-mul-of-pos-right h (lt-of-le-of-lt zero-le h))
 
-pub lt-of-sq : {a b : ℕ} → a * a < b * b → a < b
+lt-of-sq : {a b : ℕ} → a * a < b * b → a < b
 lt-of-sq h = lt-of-not-le (λ g. not-le-of-lt h (sq-le g))
 
--- ---- the whole part of a root: a is at most that where a * a ≤ n, and above it where n < a * a; so there is one
+-- ---- the whole part of a root: a is at most that where a * a ≤ n, and above it where n < a * a
 pub root-ge : {n q : ℕ} (a : ℕ) → IsRoot n q → a * a ≤ n → a ≤ q
 root-ge {n} {q} a r h = let l : a < q + 1 = lt-of-sq (lt-of-le-of-lt h (r .high)) in omega arith
 
 pub root-lt : {n q : ℕ} (a : ℕ) → IsRoot n q → n < a * a → q < a
 root-lt a r h = lt-of-sq (lt-of-le-of-lt (r .low) h)
-
-pub root-unique : {n p q : ℕ} → IsRoot n p → IsRoot n q → p ≡ q
-root-unique {n} {p} {q} a b = le-antisymm (root-ge p b (a .low)) (root-ge q a (b .low))
 
 -- ---- the walk: twice what is left of n above q² is `left` units of `unit`, and less than would move q to the next multiple of `unit`
 pub record Walk (n q left unit : ℕ) : Type 0 where
@@ -59,9 +55,10 @@ nought n q left u w h = record { same = omega (arith, w .same); less = omega ari
 abbrev pub digit : ℕ → ℕ → ℕ
 digit left step = (left + 2 ^ 63 - step) / 2 ^ 63
 
-pub carry : (left step : ℕ) → left < 2 ^ 63 → step < 2 ^ 63 → ((digit left step ≡ 0) × (left < step)) ⊎ ((digit left step ≡ 1) × (step ≤ left))
+carry : (left step : ℕ) → left < 2 ^ 63 → step < 2 ^ 63 → ((digit left step ≡ 0) × (left < step)) ⊎ ((digit left step ≡ 1) × (step ≤ left))
 carry left step l s = elim (side left step) [ inl h ↦ inl (omega arith, h) | inr h ↦ inr (omega arith, h) ]
 
+-- so a product with it is at most the other factor, and the step that is taken away at most what is left
 pub within : (left step x : ℕ) → left < 2 ^ 63 → step < 2 ^ 63 → (x * digit left step ≤ x) × (step * digit left step ≤ left)
 within left step x l s = elim (carry left step l s) [ inl h ↦ rw (h .0) (omega arith) | inr h ↦ rw (h .0) (omega (arith, h .1)) ]
 

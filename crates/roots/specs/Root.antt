@@ -17,6 +17,7 @@ unfoldable pub rootIn : ℕ → ℕ → ℕ
 rootIn zero n = 0
 rootIn (suc k) n = let r = 2 * rootIn k (n / 4) in cond (leb ((r + 1) * (r + 1)) n) (r + 1) r
 
+-- the largest q with q * q ≤ n
 unfoldable pub isqrt : ℕ → ℕ
 unfolding rootIn size
 isqrt n = rootIn (suc (size n / 2)) n
