@@ -1,0 +1,2 @@
+-- Facts that several proofs cite.
+pub mod NoNan
