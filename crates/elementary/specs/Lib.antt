@@ -1,3 +1,4 @@
 pub mod Patterns
 pub mod Horner
 pub mod Exp
+pub mod Sin

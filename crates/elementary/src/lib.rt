@@ -1,10 +1,14 @@
 mod patterns;
+mod sine;
 
 ghost use mathlib.Core.Path.{_≡_};
 ghost use Rattle.elementary.specs.Exp.{expReduced, expOf, scaled};
+ghost use Rattle.elementary.specs.Sin.{sinOf};
 
 use patterns::pattern;
+use patterns::size;
 use patterns::two_to;
+use sine::sin_reduced;
 
 const EXP: [f64; 12] = [
     1.6059043836821613e-10, 2.08767569878681e-09, 2.505210838544172e-08, 2.755731922398589e-07,
@@ -50,4 +54,17 @@ pub fn exp(x: f64) -> f64
         return 1.0 / 0.0;
     }
     scaled(exp_reduced(x, t - 6755399441057790.0), pattern(t) % 4096)
+}
+
+pub fn sin(x: f64) -> f64
+    ensures { λ r. ⌜ r ≡ sinOf x ⌝ }
+{
+    let a = size(x);
+    if a < 7.450580596923828e-09 {
+        return x;
+    }
+    if a <= 1647099.0 {
+        return sin_reduced(x, x * 0.6366197723675814 + 6755399441055744.0);
+    }
+    0.0 / 0.0
 }

@@ -1,7 +1,7 @@
 // The only functions that read or make bit patterns. Each is total.
 ghost use mathlib.Core.Path.{_≡_};
 ghost use lib.Ieee.{binary64, toBits};
-ghost use Rattle.elementary.specs.Patterns.{twoTo, digitsOf, fieldOf};
+ghost use Rattle.elementary.specs.Patterns.{twoTo, digitsOf, fieldOf, sizeOf};
 
 // The pattern of a number; at a NaN the one of `toBits`.
 pub fn pattern(t: f64) -> u64
@@ -27,4 +27,10 @@ pub fn field(b: u64) -> f64
 {
     let q = b / 0x10_0000_0000_0000 % 2048;
     (q as u32) as f64
+}
+
+pub fn size(x: f64) -> f64
+    ensures { λ r. ⌜ r ≡ sizeOf x ⌝ }
+{
+    if x < 0.0 { -x } else { x }
 }

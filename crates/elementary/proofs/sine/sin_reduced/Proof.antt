@@ -1,0 +1,36 @@
+use borrow.Author.Needs.{needs}
+use Rattle.elementary.proofs.sine.sin_reduced.Statement.{statement}
+use Rattle.elementary.proofs.sine.sin_reduced.Tie as tie
+
+array-read-a : tie.Need-array-read-a
+array-read-a c = search needs
+
+array-read-b : tie.Need-array-read-b
+array-read-b c = search needs
+
+array-read-w : tie.Need-array-read-w
+array-read-w c = search needs
+
+array-read-c : tie.Need-array-read-c
+array-read-c c = search needs
+
+pattern-requires : tie.Need-pattern-requires
+pattern-requires c κs = search needs
+
+quarter-requires : tie.Need-quarter-requires
+quarter-requires c κs = search needs
+
+returns : tie.Need-returns
+returns c = rw (c .quarter .ensures, c .before .pattern .ensures)
+
+pub sin-reduced-spec : {M : Type 1} → statement M
+sin-reduced-spec =
+    tie.close
+    (tie.spec
+    array-read-a
+    array-read-b
+    array-read-w
+    array-read-c
+    pattern-requires
+    quarter-requires
+    returns)
