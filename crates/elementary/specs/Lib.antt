@@ -1,4 +1,6 @@
 pub mod Patterns
 pub mod Horner
 pub mod Exp
+pub mod Ln
+pub mod Atan
 pub mod Sin

@@ -1,70 +1,104 @@
+// Elementary functions and the tails of the normal law: plain float steps, each rounded once, the same bits on every machine. Every function is total.
+// Each is proved equal to the list of steps that its promise names; specs/ has the lists, with the method, the ranges and the measured error.
+mod arctangent;
+mod exponential;
+mod logarithm;
 mod patterns;
 mod sine;
 
 ghost use mathlib.Core.Path.{_≡_};
-ghost use Rattle.elementary.specs.Exp.{expReduced, expOf, scaled};
+ghost use Rattle.elementary.specs.Exp.{expOf};
+ghost use Rattle.elementary.specs.Ln.{lnOf, ln1pOf};
+ghost use Rattle.elementary.specs.Atan.{atanOf};
 ghost use Rattle.elementary.specs.Sin.{sinOf};
-
+use arctangent::atan_size;
+use exponential::exp_reduced;
+use exponential::scaled;
+use logarithm::ln_normal;
+use logarithm::ln_rest;
 use patterns::pattern;
 use patterns::size;
-use patterns::two_to;
 use sine::sin_reduced;
 
-const EXP: [f64; 12] = [
-    1.6059043836821613e-10, 2.08767569878681e-09, 2.505210838544172e-08, 2.755731922398589e-07,
-    2.7557319223985893e-06, 2.48015873015873e-05, 0.0001984126984126984, 0.001388888888888889,
-    0.008333333333333333, 0.041666666666666664, 0.16666666666666666, 0.5];
-
-fn exp_reduced(x: f64, k: f64) -> f64
-    ensures { λ y. ⌜ y ≡ expReduced x k ⌝ }
-{
-    let hi = x - k * 0.6931471805592082;
-    let lo = k * 7.371002565167799e-13;
-    let r = hi - lo;
-    let c = (hi - r) - lo;
-    let mut p = EXP[0];
-    p = p * r + EXP[1];
-    p = p * r + EXP[2];
-    p = p * r + EXP[3];
-    p = p * r + EXP[4];
-    p = p * r + EXP[5];
-    p = p * r + EXP[6];
-    p = p * r + EXP[7];
-    p = p * r + EXP[8];
-    p = p * r + EXP[9];
-    p = p * r + EXP[10];
-    p = p * r + EXP[11];
-    1.0 + (r + (r * r * p + c))
-}
-
-fn scaled(y: f64, j: u64) -> f64
-    ensures { λ r. ⌜ r ≡ scaled y j ⌝ }
-{
-    y * two_to(j / 2) * two_to(j - j / 2)
-}
-
+// e^x
 pub fn exp(x: f64) -> f64
     ensures { λ r. ⌜ r ≡ expOf x ⌝ }
 {
-    let t = x * 1.4426950408889634 + 6755399441057790.0;
-    if t < 6755399441056644.0 {
+    let t = x * exponential::PER_LN_2 + exponential::SHIFT;
+    if t < exponential::LEAST {
         return 0.0;
     }
-    if t > 6755399441058824.0 {
+    if t > exponential::GREATEST {
         return 1.0 / 0.0;
     }
-    scaled(exp_reduced(x, t - 6755399441057790.0), pattern(t) % 4096)
+    scaled(exp_reduced(x, t - exponential::SHIFT), pattern(t) % 4096)
 }
 
+// The natural logarithm of x.
+pub fn ln(x: f64) -> f64
+    ensures { λ r. ⌜ r ≡ lnOf x ⌝ }
+{
+    if x >= logarithm::LEAST_NORMAL {
+        if x <= logarithm::LARGEST {
+            return ln_normal(x, 1023.0, 0.0);
+        }
+        return x;
+    }
+    if x > 0.0 {
+        return ln_normal(x * 18014398509481984.0, 1077.0, 0.0);
+    }
+    if x == 0.0 {
+        return -1.0 / 0.0;
+    }
+    0.0 / 0.0
+}
+
+// The natural logarithm of 1 + x.
+pub fn ln_1p(x: f64) -> f64
+    ensures { λ r. ⌜ r ≡ ln1pOf x ⌝ }
+{
+    let w = 1.0 + x;
+    if x >= logarithm::F_MOST {
+        if x >= 1.0 {
+            if x <= logarithm::LARGEST {
+                return ln_normal(w, 1023.0, (1.0 - (w - x)) / w);
+            }
+            return x;
+        }
+        return ln_normal(w, 1023.0, (x - (w - 1.0)) / w);
+    }
+    if x > logarithm::F_LEAST {
+        return x - ln_rest(x, 0.0);
+    }
+    if x > -1.0 {
+        return ln_normal(w, 1023.0, (x - (w - 1.0)) / w);
+    }
+    if x == -1.0 {
+        return -1.0 / 0.0;
+    }
+    0.0 / 0.0
+}
+
+// The angle from -pi/2 to pi/2 whose tangent is x.
+pub fn atan(x: f64) -> f64
+    ensures { λ r. ⌜ r ≡ atanOf x ⌝ }
+{
+    let y = atan_size(size(x));
+    if x < 0.0 {
+        return -y;
+    }
+    y
+}
+
+// The sine of an angle up to 1647099 in size; NaN beyond.
 pub fn sin(x: f64) -> f64
     ensures { λ r. ⌜ r ≡ sinOf x ⌝ }
 {
-    let a = size(x);
-    if a < 7.450580596923828e-09 {
-        return x;
+    if x > sine::FURTHEST {
+        return 0.0 / 0.0;
     }
-    if a <= 1647099.0 {
-        return sin_reduced(x, x * 0.6366197723675814 + 6755399441055744.0);
+    if x < -sine::FURTHEST {
+        return 0.0 / 0.0;
     }
-    0.0 / 0.0
+    sin_reduced(x)
 }

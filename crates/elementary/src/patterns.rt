@@ -1,27 +1,27 @@
-// The only functions that read or make bit patterns. Each is total.
+// The only functions that read or make bit patterns. Each is total: no caller owes anything.
 ghost use mathlib.Core.Path.{_≡_};
 ghost use lib.Ieee.{binary64, toBits};
-ghost use Rattle.elementary.specs.Patterns.{twoTo, digitsOf, fieldOf, sizeOf};
+ghost use Rattle.elementary.specs.Patterns.{twoTo, fieldOf, raised, digitsOf, sizeOf};
 
-// The pattern of a number; at a NaN the one of `toBits`.
-pub fn pattern(t: f64) -> u64
-    ensures { λ r. ⌜ r ≡ toBits binary64 t ⌝ }
+// The pattern of a number; at a NaN the one that `toBits` writes.
+pub fn pattern(x: f64) -> u64
+    ensures { λ r. ⌜ r ≡ toBits binary64 x ⌝ }
 {
-    if t == t { f64::to_bits(t) } else { 0x7ff8_0000_0000_0000 }
+    if x == x {
+        f64::to_bits(x)
+    } else {
+        0x7ff8_0000_0000_0000
+    }
 }
 
+// 2^(j - 1023)
 pub fn two_to(j: u64) -> f64
     ensures { λ r. ⌜ r ≡ twoTo j ⌝ }
 {
     f64::from_bits(j % 2048 * 0x10_0000_0000_0000)
 }
 
-pub fn digits(b: u64) -> f64
-    ensures { λ r. ⌜ r ≡ digitsOf b ⌝ }
-{
-    f64::from_bits(b % 0x10_0000_0000_0000 + 0x3ff0_0000_0000_0000)
-}
-
+// The exponent field of a pattern.
 pub fn field(b: u64) -> f64
     ensures { λ r. ⌜ r ≡ fieldOf b ⌝ }
 {
@@ -29,6 +29,21 @@ pub fn field(b: u64) -> f64
     (q as u32) as f64
 }
 
+// A pattern with its seams moved from the powers of two to the square root of 2 times these.
+pub fn raised(b: u64) -> u64
+    ensures { λ r. ⌜ r ≡ raised b ⌝ }
+{
+    b % 0x8000_0000_0000_0000 + 0x9_5f61_9980_c433
+}
+
+// The digits of such a pattern, from sqrt(1/2) to below sqrt(2).
+pub fn digits(b: u64) -> f64
+    ensures { λ r. ⌜ r ≡ digitsOf b ⌝ }
+{
+    f64::from_bits(b % 0x10_0000_0000_0000 + 0x3fe6_a09e_667f_3bcd)
+}
+
+// The size of a number; -0 stays -0.
 pub fn size(x: f64) -> f64
     ensures { λ r. ⌜ r ≡ sizeOf x ⌝ }
 {

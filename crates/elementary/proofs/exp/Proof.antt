@@ -1,5 +1,5 @@
-use borrow.Author.Needs.{needs}
 use Rattle.elementary.specs.Exp.{expOf}
+use borrow.Author.Needs.{needs}
 use Rattle.elementary.proofs.exp.Statement.{statement}
 use Rattle.elementary.proofs.exp.Tie as tie
 
@@ -11,6 +11,15 @@ returns-2 : tie.Need-returns-2
 unfolding expOf
 returns-2 c = rw (c .before .if1 .left, c .if2 .taken)
 
+exp-reduced-requires : tie.Need-exp-reduced-requires
+exp-reduced-requires c κs = search needs
+
+pattern-requires : tie.Need-pattern-requires
+pattern-requires c κs = search needs
+
+scaled-requires : tie.Need-scaled-requires
+scaled-requires c κs = search needs
+
 returns-3 : tie.Need-returns-3
 unfolding expOf
 returns-3 c = rw (c .before .before .before .before .if1 .left, c .before .before .before .if2 .left, c .scaled .ensures, c .before .before .exp-reduced .ensures, c .before .pattern .ensures)
@@ -18,4 +27,4 @@ returns-3 c = rw (c .before .before .before .before .if1 .left, c .before .befor
 pub exp-spec : {M : Type 1} → statement M
 exp-spec =
     tie.close
-    (tie.spec returns returns-2 (λ c κs. search needs) (λ c κs. search needs) (λ c κs. search needs) returns-3)
+    (tie.spec returns returns-2 exp-reduced-requires pattern-requires scaled-requires returns-3)

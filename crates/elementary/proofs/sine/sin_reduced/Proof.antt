@@ -8,8 +8,8 @@ array-read-a c = search needs
 array-read-b : tie.Need-array-read-b
 array-read-b c = search needs
 
-array-read-w : tie.Need-array-read-w
-array-read-w c = search needs
+array-read-d : tie.Need-array-read-d
+array-read-d c = search needs
 
 array-read-c : tie.Need-array-read-c
 array-read-c c = search needs
@@ -17,11 +17,11 @@ array-read-c c = search needs
 pattern-requires : tie.Need-pattern-requires
 pattern-requires c κs = search needs
 
-quarter-requires : tie.Need-quarter-requires
-quarter-requires c κs = search needs
+quarter-turns-requires : tie.Need-quarter-turns-requires
+quarter-turns-requires c κs = search needs
 
 returns : tie.Need-returns
-returns c = rw (c .quarter .ensures, c .before .pattern .ensures)
+returns c = rw (c .quarter-turns .ensures, c .before .pattern .ensures)
 
 pub sin-reduced-spec : {M : Type 1} → statement M
 sin-reduced-spec =
@@ -29,8 +29,8 @@ sin-reduced-spec =
     (tie.spec
     array-read-a
     array-read-b
-    array-read-w
+    array-read-d
     array-read-c
     pattern-requires
-    quarter-requires
+    quarter-turns-requires
     returns)

@@ -1,7 +1,7 @@
 use borrow.Author.Tests.{eq-eqb, ne-eqb}
 use borrow.Author.Needs.{needs}
-use Rattle.elementary.proofs.sine.quarter.Statement.{statement}
-use Rattle.elementary.proofs.sine.quarter.Tie as tie
+use Rattle.elementary.proofs.sine.quarter_turns.Statement.{statement}
+use Rattle.elementary.proofs.sine.quarter_turns.Tie as tie
 
 sin-kernel-requires : tie.Need-sin-kernel-requires
 sin-kernel-requires c κs = search needs
@@ -27,8 +27,8 @@ cos-kernel-requires-2 c κs = search needs
 returns-4 : tie.Need-returns-4
 returns-4 c = rw (ne-eqb _ 0 (c .before .before .before .if1 .left), ne-eqb _ 1 (c .before .before .if2 .left), ne-eqb _ 2 (c .before .if3 .left), c .cos-kernel2 .ensures)
 
-pub quarter-spec : {M : Type 1} → statement M
-quarter-spec =
+pub quarter-turns-spec : {M : Type 1} → statement M
+quarter-turns-spec =
     tie.close
     (tie.spec
     sin-kernel-requires

@@ -1,9 +1,0 @@
-use borrow.Author.Needs.{needs}
-use Rattle.elementary.proofs.scaled.Statement.{statement}
-use Rattle.elementary.proofs.scaled.Tie as tie
-
-returns : tie.Need-returns
-returns c = cc
-
-pub scaled-spec : {M : Type 1} → statement M
-scaled-spec = tie.close (tie.spec (λ c κs. search needs) (λ c. search needs) (λ c κs. search needs) returns)
