@@ -59,20 +59,20 @@ atanRest t =
     let w = z ⊗ z in
     t ⊗ (z ⊗ horner atanOdd w ⊕ w ⊗ horner atanEven w)
 
--- Step 2 from 7/16 on: the two parts of atan p, and the two sides of the fraction t.
+-- Step 2 from 7/16 on: the two parts of atan p, and t.
 abbrev pub about : ℕ → Float → Turned
-about i a = record { hi = atanHi ‼ i; lo = atanLo ‼ i; over = a ⊖ points ‼ i; under = one ⊕ points ‼ i ⊗ a }
+about i a = record { hi = atanHi ‼ i; lo = atanLo ‼ i; t = (a ⊖ points ‼ i) ⊘ (one ⊕ points ‼ i ⊗ a) }
 
 abbrev pub turn : Float → Turned
 turn a =
     cond (lt a (seams ‼ 1)) (about 0 a)
     (cond (lt a (seams ‼ 2)) (about 1 a)
     (cond (lt a (seams ‼ 3)) (about 2 a)
-    (record { hi = atanHi ‼ 3; lo = atanLo ‼ 3; over = neg one; under = a })))
+    (record { hi = atanHi ‼ 3; lo = atanLo ‼ 3; t = neg one ⊘ a })))
 
 -- Steps 3 and 4 from 7/16 on.
 abbrev pub atanTurned : Turned → Float
-atanTurned p = let t = p .over ⊘ p .under in p .hi ⊕ (atanRest t ⊕ p .lo ⊕ t)
+atanTurned p = p .hi ⊕ (atanRest (p .t) ⊕ p .lo ⊕ p .t)
 
 abbrev pub atanSize : Float → Float
 atanSize a = cond (lt a (seams ‼ 0)) (a ⊕ atanRest a) (atanTurned (turn a))

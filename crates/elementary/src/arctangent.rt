@@ -41,12 +41,11 @@ const ATAN_LO: [f64; 4] = [
     6.123233995736766e-17, // 3c91a62633145c07
 ];
 
-// atan p in two parts, and t = over / under, so that atan a = atan p + atan t.
+// atan p in two parts, and the t for which atan a = atan p + atan t.
 pub struct Turned {
     pub hi: f64,
     pub lo: f64,
-    pub over: f64,
-    pub under: f64,
+    pub t: f64,
 }
 
 // atan t - t, for |t| <= 7/16.
@@ -77,39 +76,34 @@ fn turn(a: f64) -> Turned
         return Turned {
             hi: ATAN_HI[0],
             lo: ATAN_LO[0],
-            over: a - POINTS[0],
-            under: 1.0 + POINTS[0] * a,
+            t: (a - POINTS[0]) / (1.0 + POINTS[0] * a),
         };
     }
     if a < 1.1875 {
         return Turned {
             hi: ATAN_HI[1],
             lo: ATAN_LO[1],
-            over: a - POINTS[1],
-            under: 1.0 + POINTS[1] * a,
+            t: (a - POINTS[1]) / (1.0 + POINTS[1] * a),
         };
     }
     if a < 2.4375 {
         return Turned {
             hi: ATAN_HI[2],
             lo: ATAN_LO[2],
-            over: a - POINTS[2],
-            under: 1.0 + POINTS[2] * a,
+            t: (a - POINTS[2]) / (1.0 + POINTS[2] * a),
         };
     }
     Turned {
         hi: ATAN_HI[3],
         lo: ATAN_LO[3],
-        over: -1.0,
-        under: a,
+        t: -1.0 / a,
     }
 }
 
 fn atan_turned(p: Turned) -> f64
     ensures { λ r. ⌜ r ≡ atanTurned p ⌝ }
 {
-    let t = p.over / p.under;
-    p.hi + ((atan_rest(t) + p.lo) + t)
+    p.hi + ((atan_rest(p.t) + p.lo) + p.t)
 }
 
 pub fn atan_size(a: f64) -> f64

@@ -17,41 +17,41 @@ array-read-t19 c = search needs
 returns : tie.Need-returns
 returns c = rw (c .if1 .taken)
 
-array-read-t25 : tie.Need-array-read-t25
-array-read-t25 c = search needs
+array-read-t26 : tie.Need-array-read-t26
+array-read-t26 c = search needs
 
-array-read-t29 : tie.Need-array-read-t29
-array-read-t29 c = search needs
+array-read-t30 : tie.Need-array-read-t30
+array-read-t30 c = search needs
 
-array-read-t33 : tie.Need-array-read-t33
-array-read-t33 c = search needs
+array-read-t34 : tie.Need-array-read-t34
+array-read-t34 c = search needs
 
-array-read-t38 : tie.Need-array-read-t38
-array-read-t38 c = search needs
+array-read-t39 : tie.Need-array-read-t39
+array-read-t39 c = search needs
 
 returns-2 : tie.Need-returns-2
 returns-2 c = rw (c .before .if1 .left, c .if2 .taken)
 
-array-read-t44 : tie.Need-array-read-t44
-array-read-t44 c = search needs
+array-read-t46 : tie.Need-array-read-t46
+array-read-t46 c = search needs
 
-array-read-t48 : tie.Need-array-read-t48
-array-read-t48 c = search needs
+array-read-t50 : tie.Need-array-read-t50
+array-read-t50 c = search needs
 
-array-read-t52 : tie.Need-array-read-t52
-array-read-t52 c = search needs
+array-read-t54 : tie.Need-array-read-t54
+array-read-t54 c = search needs
 
-array-read-t57 : tie.Need-array-read-t57
-array-read-t57 c = search needs
+array-read-t59 : tie.Need-array-read-t59
+array-read-t59 c = search needs
 
 returns-3 : tie.Need-returns-3
 returns-3 c = rw (c .before .before .if1 .left, c .before .if2 .left, c .if3 .taken)
 
-array-read-t63 : tie.Need-array-read-t63
-array-read-t63 c = search needs
+array-read-t66 : tie.Need-array-read-t66
+array-read-t66 c = search needs
 
-array-read-t67 : tie.Need-array-read-t67
-array-read-t67 c = search needs
+array-read-t70 : tie.Need-array-read-t70
+array-read-t70 c = search needs
 
 returns-4 : tie.Need-returns-4
 returns-4 c = rw (c .before .before .if1 .left, c .before .if2 .left, c .if3 .left)
@@ -65,16 +65,16 @@ turn-spec =
     array-read-t14
     array-read-t19
     returns
-    array-read-t25
-    array-read-t29
-    array-read-t33
-    array-read-t38
+    array-read-t26
+    array-read-t30
+    array-read-t34
+    array-read-t39
     returns-2
-    array-read-t44
-    array-read-t48
-    array-read-t52
-    array-read-t57
+    array-read-t46
+    array-read-t50
+    array-read-t54
+    array-read-t59
     returns-3
-    array-read-t63
-    array-read-t67
+    array-read-t66
+    array-read-t70
     returns-4)
