@@ -15,7 +15,6 @@ use mathlib.Core.Bool.{cond}
 use mathlib.Core.List.{List, [], _∷_, map}
 use lib.Ieee.{Float, lt, neg}
 use Rattle.floats.specs.Words.{_⊕_, _⊖_, _⊗_, _⊘_, _‼_, float, one, plusZero}
-use Rattle.elementary.specs.Patterns.{sizeOf}
 use Rattle.elementary.specs.Horner.{horner}
 use Rattle.elementary.specs.declared.arctangent.Turned.{Turned}
 
@@ -78,4 +77,4 @@ abbrev pub atanSize : Float → Float
 atanSize a = cond (lt a (seams ‼ 0)) (a ⊕ atanRest a) (atanTurned (turn a))
 
 unfoldable pub atanOf : Float → Float
-atanOf x = let y = atanSize (sizeOf x) in cond (lt x plusZero) (neg y) y
+atanOf x = cond (lt x plusZero) (neg (atanSize (neg x))) (atanSize x)

@@ -2,9 +2,8 @@
 -- A pattern is a sign, an exponent field of 11 digits that counts from 1023, and the 52 digits below the leading one (lib.Ieee's toBits and ofBits).
 -- Definitions only. Assumes nothing.
 use Prim.Native.Nat.{ℕ, _+_, _-_, _*_, _/_, _%_, _^_}
-use mathlib.Core.Bool.{cond}
 use lib.IntN.{pos}
-use lib.Ieee.{Float, binary64, neg, lt, ofInt}
+use lib.Ieee.{Float, binary64, neg, ofInt}
 use Rattle.floats.specs.Words.{_⊘_, float, plusZero, one}
 
 -- 2 ^ (j - 1023), for an exponent field j from 1 to 2046; +0 at 0, +infinity at 2047
@@ -26,10 +25,6 @@ raised b = b % 2 ^ 63 + (0x3ff0000000000000 - rootHalf)
 -- The digits of a raised pattern, as a number from √½ to below √2.
 abbrev pub digitsOf : ℕ → Float
 digitsOf b = float (b % 2 ^ 52 + rootHalf)
-
--- The size of x. -0 stays -0.
-abbrev pub sizeOf : Float → Float
-sizeOf x = cond (lt x plusZero) (neg x) x
 
 -- +infinity, -infinity and NaN
 abbrev pub plusInfinity : Float

@@ -14,10 +14,9 @@ ghost use Rattle.elementary.specs.Sin.{sinOf};
 use arctangent::atan_size;
 use exponential::exp_reduced;
 use exponential::scaled;
+use floats::bits::bits_of;
 use logarithm::ln_normal;
 use logarithm::ln_rest;
-use patterns::pattern;
-use patterns::size;
 use sine::sin_reduced;
 
 // e^x
@@ -31,7 +30,7 @@ pub fn exp(x: f64) -> f64
     if t > exponential::GREATEST {
         return 1.0 / 0.0;
     }
-    scaled(exp_reduced(x, t - exponential::SHIFT), pattern(t) % 4096)
+    scaled(exp_reduced(x, t - exponential::SHIFT), bits_of(t) % 4096)
 }
 
 // The natural logarithm of x.
@@ -83,11 +82,10 @@ pub fn ln_1p(x: f64) -> f64
 pub fn atan(x: f64) -> f64
     ensures { λ r. ⌜ r ≡ atanOf x ⌝ }
 {
-    let y = atan_size(size(x));
     if x < 0.0 {
-        return -y;
+        return -atan_size(-x);
     }
-    y
+    atan_size(x)
 }
 
 // The sine of an angle up to 1647099 in size; NaN beyond.

@@ -4,8 +4,8 @@ ghost use Rattle.elementary.specs.Ln.{lnRest, lnNormal};
 use crate::exponential::LN_2;
 use crate::patterns::digits;
 use crate::patterns::field;
-use crate::patterns::pattern;
 use crate::patterns::raised;
+use floats::bits::bits_of;
 
 // (ln(1 + f) / s - 2) / z in powers of w = z^2, the odd powers of z apart from the even ones.
 const LN_EVEN: [f64; 3] = [
@@ -53,7 +53,7 @@ pub fn ln_rest(f: f64, g: f64) -> f64
 pub fn ln_normal(w: f64, bias: f64, c: f64) -> f64
     ensures { λ y. ⌜ y ≡ lnNormal w bias c ⌝ }
 {
-    let b = raised(pattern(w));
+    let b = raised(bits_of(w));
     let k = field(b) - bias;
     let f = digits(b) - 1.0;
     k * LN_2[0] - (ln_rest(f, c + k * LN_2[1]) - f)

@@ -1,24 +1,13 @@
-// The only functions that read or make bit patterns. Each is total: no caller owes anything.
+// The fields of a bit pattern, and numbers made of such fields.
 ghost use mathlib.Core.Path.{_≡_};
-ghost use lib.Ieee.{binary64, toBits};
-ghost use Rattle.elementary.specs.Patterns.{twoTo, fieldOf, raised, digitsOf, sizeOf};
-
-// The pattern of a number; at a NaN the one that `toBits` writes.
-pub fn pattern(x: f64) -> u64
-    ensures { λ r. ⌜ r ≡ toBits binary64 x ⌝ }
-{
-    if x == x {
-        f64::to_bits(x)
-    } else {
-        0x7ff8_0000_0000_0000
-    }
-}
+ghost use Rattle.elementary.specs.Patterns.{twoTo, fieldOf, raised, digitsOf};
+use floats::bits::of_bits;
 
 // 2^(j - 1023)
 pub fn two_to(j: u64) -> f64
     ensures { λ r. ⌜ r ≡ twoTo j ⌝ }
 {
-    f64::from_bits(j % 2048 * 0x10_0000_0000_0000)
+    of_bits(j % 2048 * 0x10_0000_0000_0000)
 }
 
 // The exponent field of a pattern.
@@ -40,12 +29,5 @@ pub fn raised(b: u64) -> u64
 pub fn digits(b: u64) -> f64
     ensures { λ r. ⌜ r ≡ digitsOf b ⌝ }
 {
-    f64::from_bits(b % 0x10_0000_0000_0000 + 0x3fe6_a09e_667f_3bcd)
-}
-
-// The size of a number; -0 stays -0.
-pub fn size(x: f64) -> f64
-    ensures { λ r. ⌜ r ≡ sizeOf x ⌝ }
-{
-    if x < 0.0 { -x } else { x }
+    of_bits(b % 0x10_0000_0000_0000 + 0x3fe6_a09e_667f_3bcd)
 }

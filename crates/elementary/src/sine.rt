@@ -1,7 +1,7 @@
 // The steps of sin (specs/Sin.antt has the method), and its constants.
 ghost use mathlib.Core.Path.{_≡_};
 ghost use Rattle.elementary.specs.Sin.{sinKernel, cosKernel, quarterTurns, sinReduced};
-use crate::patterns::pattern;
+use floats::bits::bits_of;
 
 // pi/2 in four parts.
 const HALF_PI: [f64; 4] = [
@@ -101,5 +101,5 @@ pub fn sin_reduced(x: f64) -> f64
     let d = k * HALF_PI[2];
     let r = m - d;
     let c = ((d - (m - r)) + (b - (a - m))) + k * HALF_PI[3];
-    quarter_turns(pattern(t) % 4, r, c)
+    quarter_turns(bits_of(t) % 4, r, c)
 }

@@ -14,17 +14,17 @@ returns-2 c = rw (c .before .if1 .left, c .if2 .taken)
 exp-reduced-requires : tie.Need-exp-reduced-requires
 exp-reduced-requires c κs = search needs
 
-pattern-requires : tie.Need-pattern-requires
-pattern-requires c κs = search needs
+bits-of-requires : tie.Need-bits-of-requires
+bits-of-requires c κs = search needs
 
 scaled-requires : tie.Need-scaled-requires
 scaled-requires c κs = search needs
 
 returns-3 : tie.Need-returns-3
 unfolding expOf
-returns-3 c = rw (c .before .before .before .before .if1 .left, c .before .before .before .if2 .left, c .scaled .ensures, c .before .before .exp-reduced .ensures, c .before .pattern .ensures)
+returns-3 c = rw (c .before .before .before .before .if1 .left, c .before .before .before .if2 .left, c .scaled .ensures, c .before .before .exp-reduced .ensures, c .before .bits-of .ensures)
 
 pub exp-spec : {M : Type 1} → statement M
 exp-spec =
     tie.close
-    (tie.spec returns returns-2 exp-reduced-requires pattern-requires scaled-requires returns-3)
+    (tie.spec returns returns-2 exp-reduced-requires bits-of-requires scaled-requires returns-3)

@@ -2,8 +2,8 @@ use borrow.Author.Needs.{needs}
 use Rattle.elementary.proofs.logarithm.ln_normal.Statement.{statement}
 use Rattle.elementary.proofs.logarithm.ln_normal.Tie as tie
 
-pattern-requires : tie.Need-pattern-requires
-pattern-requires c κs = search needs
+bits-of-requires : tie.Need-bits-of-requires
+bits-of-requires c κs = search needs
 
 raised-requires : tie.Need-raised-requires
 raised-requires c κs = search needs
@@ -24,13 +24,13 @@ ln-rest-requires : tie.Need-ln-rest-requires
 ln-rest-requires c κs = search needs
 
 returns : tie.Need-returns
-returns c = rw (c .ln-rest .ensures, c .before .digits .ensures, c .before .before .field .ensures, c .before .before .before .raised .ensures, c .before .before .before .before .pattern .ensures)
+returns c = rw (c .ln-rest .ensures, c .before .digits .ensures, c .before .before .field .ensures, c .before .before .before .raised .ensures, c .before .before .before .before .bits-of .ensures)
 
 pub ln-normal-spec : {M : Type 1} → statement M
 ln-normal-spec =
     tie.close
     (tie.spec
-    pattern-requires
+    bits-of-requires
     raised-requires
     field-requires
     digits-requires

@@ -14,14 +14,14 @@ array-read-d c = search needs
 array-read-c : tie.Need-array-read-c
 array-read-c c = search needs
 
-pattern-requires : tie.Need-pattern-requires
-pattern-requires c κs = search needs
+bits-of-requires : tie.Need-bits-of-requires
+bits-of-requires c κs = search needs
 
 quarter-turns-requires : tie.Need-quarter-turns-requires
 quarter-turns-requires c κs = search needs
 
 returns : tie.Need-returns
-returns c = rw (c .quarter-turns .ensures, c .before .pattern .ensures)
+returns c = rw (c .quarter-turns .ensures, c .before .bits-of .ensures)
 
 pub sin-reduced-spec : {M : Type 1} → statement M
 sin-reduced-spec =
@@ -31,6 +31,6 @@ sin-reduced-spec =
     array-read-b
     array-read-d
     array-read-c
-    pattern-requires
+    bits-of-requires
     quarter-turns-requires
     returns)

@@ -1,2 +1,0 @@
--- Facts that several proofs cite.
-pub mod NoNan
