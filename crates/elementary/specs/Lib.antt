@@ -4,3 +4,5 @@ pub mod Exp
 pub mod Ln
 pub mod Atan
 pub mod Sin
+pub mod Tails
+pub mod Bounds

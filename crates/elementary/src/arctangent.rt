@@ -1,37 +1,47 @@
 // The steps of atan (specs/Atan.antt has the method), and its constants.
 ghost use mathlib.Core.Path.{_≡_};
-ghost use Rattle.elementary.specs.Atan.{atanRest, turn, atanTurned, atanSize};
+ghost use Prim.Native.Nat.{_<_};
+ghost use Rattle.elementary.specs.Atan.{atanRest, about, turn, atanTurned, atanSize};
 
-// (atan t / t - 1) / z in powers of w = z^2, the odd powers of z apart from the even ones.
+// (atan t / t - 1) in powers of z = t^2: those of z^11, z^9, .., z, and those of z^10, z^8, .., z^2.
 const ATAN_ODD: [f64; 6] = [
-    -0.017547235157290005, // bf91f7e7048b0a6f
-    -0.05033942776485848, // bfa9c616e7e61a95
-    -0.06663239299107136, // bfb10ed20cc03917
-    -0.09090900195560148, // bfb745cff64fb1e8
-    -0.1428571428314864, // bfc24924923b09bf
-    -0.33333333333333326, // bfd5555555555554
+    -0.017547235157290005, // bf91f7e7048b0a6f  z^11
+    -0.05033942776485848, // bfa9c616e7e61a95  z^9, near -1/19
+    -0.06663239299107136, // bfb10ed20cc03917  z^7, near -1/15
+    -0.09090900195560148, // bfb745cff64fb1e8  z^5, near -1/11
+    -0.1428571428314864, // bfc24924923b09bf  z^3, near -1/7
+    -0.33333333333333326, // bfd5555555555554  z, near -1/3
 ];
 
 const ATAN_EVEN: [f64; 5] = [
-    0.03782521866106712, // 3fa35dd3ba3a06ad
-    0.05847724720645106, // 3fadf0bad09fa62c
-    0.07692087348767168, // 3fb3b1161c0261b4
-    0.11111110900560475, // 3fbc71c71366bfc2
-    0.1999999999998777, // 3fc9999999998863
+    0.03782521866106712, // 3fa35dd3ba3a06ad  z^10
+    0.05847724720645106, // 3fadf0bad09fa62c  z^8, near 1/17
+    0.07692087348767168, // 3fb3b1161c0261b4  z^6, near 1/13
+    0.11111110900560475, // 3fbc71c71366bfc2  z^4, near 1/9
+    0.1999999999998777, // 3fc9999999998863  z^2, near 1/5
 ];
 
-// The points, and the arc tangents of these and of infinity in two parts.
+// Where the point that an angle is turned back by changes: none, 1/2, 1, 3/2, infinity.
+const SEAMS: [f64; 4] = [
+    0.4375, // 3fdc000000000000  7/16
+    0.6875, // 3fe6000000000000  11/16
+    1.1875, // 3ff3000000000000  19/16
+    2.4375, // 4003800000000000  39/16
+];
+
+// The points.
 const POINTS: [f64; 3] = [
     0.5, // 3fe0000000000000
     1.0, // 3ff0000000000000
     1.5, // 3ff8000000000000
 ];
 
+// The arc tangents of these and of infinity, rounded, and what the rounding lost.
 const ATAN_HI: [f64; 4] = [
-    0.4636476090008061, // 3fddac670561bb4f
-    0.7853981633974483, // 3fe921fb54442d18
-    0.982793723247329, // 3fef730bd281f69b
-    1.5707963267948966, // 3ff921fb54442d18
+    0.4636476090008061, // 3fddac670561bb4f  atan 1/2
+    0.7853981633974483, // 3fe921fb54442d18  pi/4
+    0.982793723247329, // 3fef730bd281f69b  atan 3/2
+    1.5707963267948966, // 3ff921fb54442d18  pi/2
 ];
 
 const ATAN_LO: [f64; 4] = [
@@ -68,30 +78,30 @@ fn atan_rest(t: f64) -> f64
     t * (z * odd + w * even)
 }
 
-// a >= 7/16 about the nearest of the four points.
+// a, turned back by the angle of POINTS[i].
+fn about(i: usize, a: f64) -> Turned
+    requires { ⌜ i < 3 ⌝ }
+    ensures { λ r. ⌜ r ≡ about i a ⌝ }
+{
+    Turned {
+        hi: ATAN_HI[i],
+        lo: ATAN_LO[i],
+        t: (a - POINTS[i]) / (1.0 + POINTS[i] * a),
+    }
+}
+
+// a >= 7/16, turned back by the angle of the nearest point.
 fn turn(a: f64) -> Turned
     ensures { λ r. ⌜ r ≡ turn a ⌝ }
 {
-    if a < 0.6875 {
-        return Turned {
-            hi: ATAN_HI[0],
-            lo: ATAN_LO[0],
-            t: (a - POINTS[0]) / (1.0 + POINTS[0] * a),
-        };
+    if a < SEAMS[1] {
+        return about(0, a);
     }
-    if a < 1.1875 {
-        return Turned {
-            hi: ATAN_HI[1],
-            lo: ATAN_LO[1],
-            t: (a - POINTS[1]) / (1.0 + POINTS[1] * a),
-        };
+    if a < SEAMS[2] {
+        return about(1, a);
     }
-    if a < 2.4375 {
-        return Turned {
-            hi: ATAN_HI[2],
-            lo: ATAN_LO[2],
-            t: (a - POINTS[2]) / (1.0 + POINTS[2] * a),
-        };
+    if a < SEAMS[3] {
+        return about(2, a);
     }
     Turned {
         hi: ATAN_HI[3],
@@ -100,16 +110,18 @@ fn turn(a: f64) -> Turned
     }
 }
 
+// atan p + atan t, added from the smallest part up.
 fn atan_turned(p: Turned) -> f64
     ensures { λ r. ⌜ r ≡ atanTurned p ⌝ }
 {
     p.hi + ((atan_rest(p.t) + p.lo) + p.t)
 }
 
+// atan a, for a that is not below 0.
 pub fn atan_size(a: f64) -> f64
     ensures { λ r. ⌜ r ≡ atanSize a ⌝ }
 {
-    if a < 0.4375 {
+    if a < SEAMS[0] {
         return a + atan_rest(a);
     }
     atan_turned(turn(a))

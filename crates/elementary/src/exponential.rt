@@ -26,14 +26,14 @@ const EXP: [f64; 12] = [
 ];
 
 // 1 / ln 2, and what is added so that the last digits of the sum are k + 2046.
-pub const PER_LN_2: f64 = 1.4426950408889634;
+pub const PER_LN_2: f64 = 1.4426950408889634; // 3ff71547652b82fe
 
-pub const SHIFT: f64 = 6755399441057790.0;
+pub const SHIFT: f64 = 6755399441057790.0; // 43380000000007fe
 
 // That sum at k = -1146 and at k = 1034.
-pub const LEAST: f64 = 6755399441056644.0;
+pub const LEAST: f64 = 6755399441056644.0; // 4338000000000384
 
-pub const GREATEST: f64 = 6755399441058824.0;
+pub const GREATEST: f64 = 6755399441058824.0; // 4338000000000c08
 
 // e^(x - k ln 2)
 pub fn exp_reduced(x: f64, k: f64) -> f64

@@ -1,25 +1,32 @@
-// Elementary functions and the tails of the normal law: plain float steps, each rounded once, the same bits on every machine. Every function is total.
-// Each is proved equal to the list of steps that its promise names; specs/ has the lists, with the method, the ranges and the measured error.
+// Elementary functions and the tails of the normal law, as plain float steps, each rounded once: the
+// same bits on every machine. Every function is total. Each promise names the list of steps that the
+// function is proved equal to; specs/ has the lists, with the method in numbered steps, the ranges,
+// the measured error and where the constants come from.
 mod arctangent;
 mod exponential;
 mod logarithm;
 mod patterns;
 mod sine;
+mod tails;
 
 ghost use mathlib.Core.Path.{_≡_};
 ghost use Rattle.elementary.specs.Exp.{expOf};
 ghost use Rattle.elementary.specs.Ln.{lnOf, ln1pOf};
 ghost use Rattle.elementary.specs.Atan.{atanOf};
 ghost use Rattle.elementary.specs.Sin.{sinOf};
+ghost use Rattle.elementary.specs.Tails.{lowerTail, upperTail};
 use arctangent::atan_size;
 use exponential::exp_reduced;
 use exponential::scaled;
 use floats::bits::bits_of;
 use logarithm::ln_normal;
 use logarithm::ln_rest;
+use roots::sqrt;
 use sine::sin_reduced;
+use tails::tail_beyond;
 
-// e^x
+// e^x, by k nearest to x / ln 2, e^(x - k ln 2) by Taylor's polynomial, and 2^k in two factors.
+// +infinity above 709.782712893384, +0 below -745.1332191019412, NaN at a NaN. Within 0.80 ulp.
 pub fn exp(x: f64) -> f64
     ensures { λ r. ⌜ r ≡ expOf x ⌝ }
 {
@@ -33,7 +40,8 @@ pub fn exp(x: f64) -> f64
     scaled(exp_reduced(x, t - exponential::SHIFT), bits_of(t) % 4096)
 }
 
-// The natural logarithm of x.
+// ln x, by x = 2^k (1 + f) with f near 0, the series in f / (2 + f), and k ln 2 in two parts.
+// -infinity at both zeros, +infinity at +infinity, NaN below 0 and at a NaN. Within 0.87 ulp.
 pub fn ln(x: f64) -> f64
     ensures { λ r. ⌜ r ≡ lnOf x ⌝ }
 {
@@ -52,7 +60,9 @@ pub fn ln(x: f64) -> f64
     0.0 / 0.0
 }
 
-// The natural logarithm of 1 + x.
+// ln(1 + x), by the same series at f = x where x is near 0, else by ln w + d / w, with w = 1 + x and d
+// what w lost. -0 at -0, -infinity at -1, +infinity at +infinity, NaN below -1 and at a NaN. Within
+// 0.85 ulp from 0 up, 0.89 below.
 pub fn ln_1p(x: f64) -> f64
     ensures { λ r. ⌜ r ≡ ln1pOf x ⌝ }
 {
@@ -78,7 +88,9 @@ pub fn ln_1p(x: f64) -> f64
     0.0 / 0.0
 }
 
-// The angle from -pi/2 to pi/2 whose tangent is x.
+// The angle from -pi/2 to pi/2 whose tangent is x: turned back by the angle of 1/2, 1, 3/2 or
+// infinity to a tangent of at most 7/16, then an odd polynomial. -0 at -0, NaN at a NaN. Within
+// 0.86 ulp.
 pub fn atan(x: f64) -> f64
     ensures { λ r. ⌜ r ≡ atanOf x ⌝ }
 {
@@ -88,7 +100,8 @@ pub fn atan(x: f64) -> f64
     atan_size(x)
 }
 
-// The sine of an angle up to 1647099 in size; NaN beyond.
+// The sine of x: quarter turns taken off with pi/2 in four parts, then Taylor's polynomials. -0 at -0.
+// NaN beyond 1647099 in size, where the reduction ends, and at a NaN. Within 0.82 ulp.
 pub fn sin(x: f64) -> f64
     ensures { λ r. ⌜ r ≡ sinOf x ⌝ }
 {
@@ -99,4 +112,26 @@ pub fn sin(x: f64) -> f64
         return 0.0 / 0.0;
     }
     sin_reduced(x)
+}
+
+// The normal law with this mean and this variance.
+pub struct NormalLaw {
+    pub mean: f64,
+    pub variance: f64,
+}
+
+// The chance that the law gives a number up to x. Within 2.5e-16; in 0 .. 1 for a finite mean, a
+// finite variance above 0 and an x that is no NaN (specs/Bounds.antt). NaN where one of them is a NaN,
+// and for a variance below 0.
+pub fn lower_tail(law: NormalLaw, x: f64) -> f64
+    ensures { λ r. ⌜ r ≡ lowerTail law x ⌝ }
+{
+    tail_beyond(-((x - law.mean) / sqrt(law.variance)))
+}
+
+// The chance that the law gives a number beyond x. The same holds.
+pub fn upper_tail(law: NormalLaw, x: f64) -> f64
+    ensures { λ r. ⌜ r ≡ upperTail law x ⌝ }
+{
+    tail_beyond((x - law.mean) / sqrt(law.variance))
 }

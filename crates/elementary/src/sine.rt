@@ -34,11 +34,11 @@ const COS: [f64; 7] = [
 ];
 
 // 2/pi, what is added so that the last digits of the sum are k's, and the end of the reduction.
-const PER_HALF_PI: f64 = 0.6366197723675814;
+const PER_HALF_PI: f64 = 0.6366197723675814; // 3fe45f306dc9c883
 
-const SHIFT: f64 = 6755399441055744.0;
+const SHIFT: f64 = 6755399441055744.0; // 4338000000000000
 
-pub const FURTHEST: f64 = 1647099.0;
+pub const FURTHEST: f64 = 1647099.0; // 413921fb00000000
 
 // sin(r - c), for |r| <= 0.786 and c below a unit in its last place.
 fn sin_kernel(r: f64, c: f64) -> f64

@@ -11,15 +11,6 @@ returns-2 : tie.Need-returns-2
 unfolding expOf
 returns-2 c = rw (c .before .if1 .left, c .if2 .taken)
 
-exp-reduced-requires : tie.Need-exp-reduced-requires
-exp-reduced-requires c κs = search needs
-
-bits-of-requires : tie.Need-bits-of-requires
-bits-of-requires c κs = search needs
-
-scaled-requires : tie.Need-scaled-requires
-scaled-requires c κs = search needs
-
 returns-3 : tie.Need-returns-3
 unfolding expOf
 returns-3 c = rw (c .before .before .before .before .if1 .left, c .before .before .before .if2 .left, c .scaled .ensures, c .before .before .exp-reduced .ensures, c .before .bits-of .ensures)
@@ -27,4 +18,4 @@ returns-3 c = rw (c .before .before .before .before .if1 .left, c .before .befor
 pub exp-spec : {M : Type 1} → statement M
 exp-spec =
     tie.close
-    (tie.spec returns returns-2 exp-reduced-requires bits-of-requires scaled-requires returns-3)
+    (tie.spec returns returns-2 (λ c κs. search needs) (λ c κs. search needs) (λ c κs. search needs) returns-3)

@@ -3,9 +3,6 @@ use borrow.Author.Needs.{needs}
 use Rattle.elementary.proofs.ln.Statement.{statement}
 use Rattle.elementary.proofs.ln.Tie as tie
 
-ln-normal-requires : tie.Need-ln-normal-requires
-ln-normal-requires c κs = search needs
-
 returns : tie.Need-returns
 unfolding lnOf
 returns c = rw (c .before .before .if1 .taken, c .before .if2 .taken, c .ln-normal .ensures)
@@ -13,9 +10,6 @@ returns c = rw (c .before .before .if1 .taken, c .before .if2 .taken, c .ln-norm
 returns-2 : tie.Need-returns-2
 unfolding lnOf
 returns-2 c = rw (c .before .if1 .taken, c .if2 .left)
-
-ln-normal-requires-2 : tie.Need-ln-normal-requires-2
-ln-normal-requires-2 c κs = search needs
 
 returns-3 : tie.Need-returns-3
 unfolding lnOf
@@ -32,11 +26,4 @@ returns-5 c = rw (c .before .before .if1 .left, c .before .if3 .left, c .if4 .le
 pub ln-spec : {M : Type 1} → statement M
 ln-spec =
     tie.close
-    (tie.spec
-    ln-normal-requires
-    returns
-    returns-2
-    ln-normal-requires-2
-    returns-3
-    returns-4
-    returns-5)
+    (tie.spec (λ c κs. search needs) returns returns-2 (λ c κs. search needs) returns-3 returns-4 returns-5)

@@ -3,9 +3,6 @@ use borrow.Author.Needs.{needs}
 use Rattle.elementary.proofs.ln_1p.Statement.{statement}
 use Rattle.elementary.proofs.ln_1p.Tie as tie
 
-ln-normal-requires : tie.Need-ln-normal-requires
-ln-normal-requires c κs = search needs
-
 returns : tie.Need-returns
 unfolding ln1pOf
 returns c = rw (c .before .before .before .if1 .taken, c .before .before .if2 .taken, c .before .if3 .taken, c .ln-normal .ensures)
@@ -14,22 +11,13 @@ returns-2 : tie.Need-returns-2
 unfolding ln1pOf
 returns-2 c = rw (c .before .before .if1 .taken, c .before .if2 .taken, c .if3 .left)
 
-ln-normal-requires-2 : tie.Need-ln-normal-requires-2
-ln-normal-requires-2 c κs = search needs
-
 returns-3 : tie.Need-returns-3
 unfolding ln1pOf
 returns-3 c = rw (c .before .before .if1 .taken, c .before .if2 .left, c .ln-normal2 .ensures)
 
-ln-rest-requires : tie.Need-ln-rest-requires
-ln-rest-requires c κs = search needs
-
 returns-4 : tie.Need-returns-4
 unfolding ln1pOf
 returns-4 c = rw (c .before .before .if1 .left, c .before .if4 .taken, c .ln-rest .ensures)
-
-ln-normal-requires-3 : tie.Need-ln-normal-requires-3
-ln-normal-requires-3 c κs = search needs
 
 returns-5 : tie.Need-returns-5
 unfolding ln1pOf
@@ -46,15 +34,5 @@ returns-7 c = rw (c .before .before .before .if1 .left, c .before .before .if4 .
 pub ln-1p-spec : {M : Type 1} → statement M
 ln-1p-spec =
     tie.close
-    (tie.spec
-    ln-normal-requires
-    returns
-    returns-2
-    ln-normal-requires-2
-    returns-3
-    ln-rest-requires
-    returns-4
-    ln-normal-requires-3
-    returns-5
-    returns-6
-    returns-7)
+    (tie.spec (λ c κs. search needs) returns returns-2 (λ c κs. search needs) returns-3 (λ c κs. search needs)
+    returns-4 (λ c κs. search needs) returns-5 returns-6 returns-7)

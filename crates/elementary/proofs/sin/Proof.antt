@@ -11,12 +11,11 @@ returns-2 : tie.Need-returns-2
 unfolding sinOf
 returns-2 c = rw (c .before .if1 .left, c .if2 .taken)
 
-sin-reduced-requires : tie.Need-sin-reduced-requires
-sin-reduced-requires c κs = search needs
-
 returns-3 : tie.Need-returns-3
 unfolding sinOf
 returns-3 c = rw (c .before .before .if1 .left, c .before .if2 .left, c .sin-reduced .ensures)
 
 pub sin-spec : {M : Type 1} → statement M
-sin-spec = tie.close (tie.spec returns returns-2 sin-reduced-requires returns-3)
+sin-spec =
+    tie.close
+    (tie.spec returns returns-2 (λ c κs. search needs) returns-3)

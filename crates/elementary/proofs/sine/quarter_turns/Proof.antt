@@ -3,26 +3,14 @@ use borrow.Author.Needs.{needs}
 use Rattle.elementary.proofs.sine.quarter_turns.Statement.{statement}
 use Rattle.elementary.proofs.sine.quarter_turns.Tie as tie
 
-sin-kernel-requires : tie.Need-sin-kernel-requires
-sin-kernel-requires c κs = search needs
-
 returns : tie.Need-returns
 returns c = rw (eq-eqb _ 0 (c .before .if1 .taken), c .sin-kernel .ensures)
-
-cos-kernel-requires : tie.Need-cos-kernel-requires
-cos-kernel-requires c κs = search needs
 
 returns-2 : tie.Need-returns-2
 returns-2 c = rw (ne-eqb _ 0 (c .before .before .if1 .left), eq-eqb _ 1 (c .before .if2 .taken), c .cos-kernel .ensures)
 
-sin-kernel-requires-2 : tie.Need-sin-kernel-requires-2
-sin-kernel-requires-2 c κs = search needs
-
 returns-3 : tie.Need-returns-3
 returns-3 c = rw (ne-eqb _ 0 (c .before .before .before .if1 .left), ne-eqb _ 1 (c .before .before .if2 .left), eq-eqb _ 2 (c .before .if3 .taken), c .sin-kernel2 .ensures)
-
-cos-kernel-requires-2 : tie.Need-cos-kernel-requires-2
-cos-kernel-requires-2 c κs = search needs
 
 returns-4 : tie.Need-returns-4
 returns-4 c = rw (ne-eqb _ 0 (c .before .before .before .if1 .left), ne-eqb _ 1 (c .before .before .if2 .left), ne-eqb _ 2 (c .before .if3 .left), c .cos-kernel2 .ensures)
@@ -30,12 +18,5 @@ returns-4 c = rw (ne-eqb _ 0 (c .before .before .before .if1 .left), ne-eqb _ 1 
 pub quarter-turns-spec : {M : Type 1} → statement M
 quarter-turns-spec =
     tie.close
-    (tie.spec
-    sin-kernel-requires
-    returns
-    cos-kernel-requires
-    returns-2
-    sin-kernel-requires-2
-    returns-3
-    cos-kernel-requires-2
-    returns-4)
+    (tie.spec (λ c κs. search needs) returns (λ c κs. search needs) returns-2 (λ c κs. search needs) returns-3
+    (λ c κs. search needs) returns-4)
