@@ -1,0 +1,137 @@
+// Elementary functions and the tails of the normal law, as plain float steps, each rounded once: the
+// same bits on every machine. Every function is total. Each promise names the list of steps that the
+// function is proved equal to; specs/ has the lists, with the method in numbered steps, the ranges,
+// the measured error and where the constants come from.
+mod arctangent;
+mod exponential;
+mod logarithm;
+mod patterns;
+mod sine;
+mod tails;
+
+ghost use mathlib.Core.Path.{_≡_};
+ghost use Rattle.elementary.specs.Exp.{expOf};
+ghost use Rattle.elementary.specs.Ln.{lnOf, ln1pOf};
+ghost use Rattle.elementary.specs.Atan.{atanOf};
+ghost use Rattle.elementary.specs.Sin.{sinOf};
+ghost use Rattle.elementary.specs.Tails.{lowerTail, upperTail};
+use arctangent::atan_size;
+use exponential::exp_reduced;
+use exponential::scaled;
+use floats::bits::bits_of;
+use logarithm::ln_normal;
+use logarithm::ln_rest;
+use roots::sqrt;
+use sine::sin_reduced;
+use tails::tail_beyond;
+
+// e^x, by k nearest to x / ln 2, e^(x - k ln 2) by Taylor's polynomial, and 2^k in two factors.
+// +infinity above 709.782712893384, +0 below -745.1332191019412, NaN at a NaN. Within 0.80 ulp.
+pub fn exp(x: f64) -> f64
+    ensures { λ r. ⌜ r ≡ expOf x ⌝ }
+{
+    let t = x * exponential::PER_LN_2 + exponential::SHIFT;
+    if t < exponential::LEAST {
+        return 0.0;
+    }
+    if t > exponential::GREATEST {
+        return 1.0 / 0.0;
+    }
+    scaled(exp_reduced(x, t - exponential::SHIFT), bits_of(t) % 4096)
+}
+
+// ln x, by x = 2^k (1 + f) with f near 0, the series in f / (2 + f), and k ln 2 in two parts.
+// -infinity at both zeros, +infinity at +infinity, NaN below 0 and at a NaN. Within 0.87 ulp.
+pub fn ln(x: f64) -> f64
+    ensures { λ r. ⌜ r ≡ lnOf x ⌝ }
+{
+    if x >= logarithm::LEAST_NORMAL {
+        if x <= logarithm::LARGEST {
+            return ln_normal(x, 1023.0, 0.0);
+        }
+        return x;
+    }
+    if x > 0.0 {
+        return ln_normal(x * 18014398509481984.0, 1077.0, 0.0);
+    }
+    if x == 0.0 {
+        return -1.0 / 0.0;
+    }
+    0.0 / 0.0
+}
+
+// ln(1 + x), by the same series at f = x where x is near 0, else by ln w + d / w, with w = 1 + x and d
+// what w lost. -0 at -0, -infinity at -1, +infinity at +infinity, NaN below -1 and at a NaN. Within
+// 0.85 ulp from 0 up, 0.89 below.
+pub fn ln_1p(x: f64) -> f64
+    ensures { λ r. ⌜ r ≡ ln1pOf x ⌝ }
+{
+    let w = 1.0 + x;
+    if x >= logarithm::F_MOST {
+        if x >= 1.0 {
+            if x <= logarithm::LARGEST {
+                return ln_normal(w, 1023.0, (1.0 - (w - x)) / w);
+            }
+            return x;
+        }
+        return ln_normal(w, 1023.0, (x - (w - 1.0)) / w);
+    }
+    if x > logarithm::F_LEAST {
+        return x - ln_rest(x, 0.0);
+    }
+    if x > -1.0 {
+        return ln_normal(w, 1023.0, (x - (w - 1.0)) / w);
+    }
+    if x == -1.0 {
+        return -1.0 / 0.0;
+    }
+    0.0 / 0.0
+}
+
+// The angle from -pi/2 to pi/2 whose tangent is x: turned back by the angle of 1/2, 1, 3/2 or
+// infinity to a tangent of at most 7/16, then an odd polynomial. -0 at -0, NaN at a NaN. Within
+// 0.86 ulp.
+pub fn atan(x: f64) -> f64
+    ensures { λ r. ⌜ r ≡ atanOf x ⌝ }
+{
+    if x < 0.0 {
+        return -atan_size(-x);
+    }
+    atan_size(x)
+}
+
+// The sine of x: quarter turns taken off with pi/2 in four parts, then Taylor's polynomials. -0 at -0.
+// NaN beyond 1647099 in size, where the reduction ends, and at a NaN. Within 0.82 ulp.
+pub fn sin(x: f64) -> f64
+    ensures { λ r. ⌜ r ≡ sinOf x ⌝ }
+{
+    if x > sine::FURTHEST {
+        return 0.0 / 0.0;
+    }
+    if x < -sine::FURTHEST {
+        return 0.0 / 0.0;
+    }
+    sin_reduced(x)
+}
+
+// The normal law with this mean and this variance.
+pub struct NormalLaw {
+    pub mean: f64,
+    pub variance: f64,
+}
+
+// The chance that the law gives a number up to x. Within 2.5e-16; in 0 .. 1 for a finite mean, a
+// finite variance above 0 and an x that is no NaN (specs/Bounds.antt). NaN where one of them is a NaN,
+// and for a variance below 0.
+pub fn lower_tail(law: NormalLaw, x: f64) -> f64
+    ensures { λ r. ⌜ r ≡ lowerTail law x ⌝ }
+{
+    tail_beyond(-((x - law.mean) / sqrt(law.variance)))
+}
+
+// The chance that the law gives a number beyond x. The same holds.
+pub fn upper_tail(law: NormalLaw, x: f64) -> f64
+    ensures { λ r. ⌜ r ≡ upperTail law x ⌝ }
+{
+    tail_beyond((x - law.mean) / sqrt(law.variance))
+}
