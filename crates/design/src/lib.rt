@@ -1,0 +1,115 @@
+// What the columns of a sheet alone decide, short of eigenvalues: its size, the checks of its columns,
+// (X'X)^-1 by Cholesky, and the normal law of the Durbin-Watson statistic with its p.
+// The k columns of n rows are one run, column after column; residuals do not appear.
+
+ghost use mathlib.Core.Path.{_≡_};
+ghost use Prim.Native.Nat.{_*_, _≤_, _<_};
+ghost use lib.ListN.{length};
+ghost use lib.Ieee.{Float};
+ghost use Rattle.floats.specs.Words.{_‼_};
+ghost use Rattle.floats.specs.Tables.{table};
+ghost use Rattle.design.specs.Sheet.{sizeOf, runOf, columnsOf, tooFewRows};
+ghost use Rattle.design.specs.Matrix.{finiteMatrix};
+ghost use Rattle.design.specs.Factor.{pivotsOf, factorOf, rowsMade};
+ghost use Rattle.design.specs.Inverse.{inverseFrom};
+ghost use Rattle.design.specs.Difference.{differenceAt};
+ghost use Rattle.design.specs.Law.{lawFrom, lawAnswer, normalP};
+
+use elementary::NormalLaw;
+use floats::search::Found;
+use floats::search::first_bad;
+
+// Rows and columns of a sheet, within the limits of the sheet itself.
+pub struct SheetSize {
+    pub rows: usize,
+    pub columns: usize,
+}
+
+pub enum SizeAnswer {
+    Fits(SheetSize),
+    TooManyRows,
+    TooManyColumns,
+}
+
+impl SheetSize {
+    pub const MAX_ROWS: usize = 256;
+    pub const MAX_COLUMNS: usize = 8;
+
+    pub fn new(n: usize, k: usize) -> SizeAnswer
+        ensures { λ r. ⌜ r ≡ sizeOf n k ⌝ }
+    {
+        if n > SheetSize::MAX_ROWS {
+            return SizeAnswer::TooManyRows;
+        }
+        if k > SheetSize::MAX_COLUMNS {
+            return SizeAnswer::TooManyColumns;
+        }
+        SizeAnswer::Fits(SheetSize { rows: n, columns: k })
+    }
+}
+
+// What the columns are found to be: refusals 1 to 4, or sound.
+pub enum Columns {
+    NoColumn,
+    RowsOver,
+    ColumnsOver,
+    WrongLength,
+    NotFinite(usize),
+    Sound,
+}
+
+pub fn check_columns(columns: &[f64], n: usize, k: usize) -> Columns
+    ensures { λ r. ⌜ r ≡ columnsOf (now (columns .entry)) n k ⌝ }
+{
+    if k == 0 {
+        return Columns::NoColumn;
+    }
+    let answer = SheetSize::new(n, k);
+    match answer {
+        SizeAnswer::TooManyRows => Columns::RowsOver,
+        SizeAnswer::TooManyColumns => Columns::ColumnsOver,
+        SizeAnswer::Fits(size) => check_run(columns, size),
+    }
+}
+
+// The run of a size that fits: its length, then its numbers.
+fn check_run(columns: &[f64], size: SheetSize) -> Columns
+    requires { ⌜ (size .rows ≤ 256) × (size .columns ≤ 8) ⌝ }
+    ensures { λ r. ⌜ r ≡ runOf (now (columns .entry)) size ⌝ }
+{
+    if columns.len() != size.columns * size.rows {
+        return Columns::WrongLength;
+    }
+    let bad = first_bad(columns);
+    match bad {
+        Found::At(t) => Columns::NotFinite(t),
+        Found::Nothing => Columns::Sound,
+    }
+}
+
+// Refusal 10: no more rows than columns.
+pub fn too_few_rows(n: usize, k: usize) -> bool
+    ensures { λ r. ⌜ r ≡ tooFewRows n k ⌝ }
+{
+    n <= k
+}
+
+// Whether all pivots hold, or the first column whose pivot fails: refusal 11.
+pub enum Pivots {
+    Hold,
+    Fails(usize),
+}
+
+// Whether the law serves, or refusal 13 of stage 5, or 14.
+pub enum LawAnswer {
+    Usable(NormalLaw),
+    NotFinite,
+    NotSpread,
+}
+
+// Of autocorrelation: positive, negative, or either.
+pub enum Alternative {
+    Greater,
+    Less,
+    TwoSided,
+}
