@@ -1,1 +1,3 @@
 pub mod SheetLaws
+pub mod FactorLaws
+pub mod FillLaws

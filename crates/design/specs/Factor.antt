@@ -26,10 +26,14 @@ gram x n i j = sumProducts x (i * n) x (j * n) n
 abbrev pub restOf : List Float → ℕ → ℕ → ℕ → List Float → List Float → Float
 restOf x n i j l-i l-j = gram x n i j ⊖ sumOf j (λ m. l-i ‼ m ⊗ l-j ‼ m)
 
--- row i of the factor left of the diagonal, given the rows above it: each number from those before it
-unfoldable pub leftOf : List Float → ℕ → Matrix → ℕ → List Float
+-- the first j numbers of row i of the factor, given the rows above it: each from those before it
+unfoldable pub leftTo : List Float → ℕ → Matrix → ℕ → ℕ → List Float
 unfolding turns sumOf
-leftOf x n l i = turns i (λ j l-i. set l-i j (restOf x n i j l-i (rowAt l j) ⊘ entry l j j)) zeroRow
+leftTo x n l i j = turns j (λ j l-i. set l-i j (restOf x n i j l-i (rowAt l j) ⊘ entry l j j)) zeroRow
+
+-- row i left of the diagonal
+abbrev pub leftOf : List Float → ℕ → Matrix → ℕ → List Float
+leftOf x n l i = leftTo x n l i i
 
 -- pivot i: what is left for the square of the diagonal
 abbrev pub pivotOf : List Float → ℕ → ℕ → List Float → Float
@@ -52,8 +56,13 @@ withRoot x n i l-i = set l-i i (sqrtOf (pivotOf x n i l-i))
 
 -- the first k rows of the factor
 unfoldable pub factorOf : List Float → ℕ → ℕ → Matrix
-unfolding turns leftOf
+unfolding turns leftTo
 factorOf x n k = turns k (λ i l. set l i (withRoot x n i (leftOf x n l i))) zeroMatrix
+
+-- whether pivot i fails, where the rows above are the factor's
+unfoldable pub failsAt : List Float → ℕ → ℕ → Bool
+unfolding leftTo factorOf
+failsAt x n i = fails x n i (leftOf x n (factorOf x n i) i)
 
 abbrev pub pivotsBy : Found → Pivots
 pivotsBy (At i) = Fails i
@@ -61,8 +70,8 @@ pivotsBy Nothing = Hold
 
 -- whether all k pivots hold, or the first that fails
 unfoldable pub pivotsOf : List Float → ℕ → ℕ → Pivots
-unfolding firstWhere factorOf leftOf
-pivotsOf x n k = pivotsBy (firstWhere k (λ i. fails x n i (leftOf x n (factorOf x n i) i)))
+unfolding firstWhere failsAt
+pivotsOf x n k = pivotsBy (firstWhere k (failsAt x n))
 
 -- how many rows of the factor are made: all k, or those above the pivot that fails
 abbrev pub rowsMade : ℕ → Pivots → ℕ

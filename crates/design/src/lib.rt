@@ -2,6 +2,8 @@
 // (X'X)^-1 by Cholesky, and the normal law of the Durbin-Watson statistic with its p.
 // The k columns of n rows are one run, column after column; residuals do not appear.
 
+mod cholesky;
+
 ghost use mathlib.Core.Path.{_≡_};
 ghost use Prim.Native.Nat.{_*_, _≤_, _<_};
 ghost use lib.ListN.{length};
@@ -18,6 +20,8 @@ ghost use Rattle.design.specs.Law.{lawFrom, lawAnswer, normalP};
 use elementary::NormalLaw;
 use floats::search::Found;
 use floats::search::first_bad;
+use floats::signs::max;
+use roots::sqrt;
 
 // Rows and columns of a sheet, within the limits of the sheet itself.
 pub struct SheetSize {
@@ -98,6 +102,29 @@ pub fn too_few_rows(n: usize, k: usize) -> bool
 pub enum Pivots {
     Hold,
     Fails(usize),
+}
+
+const TOLERANCE: f64 = 1e-12;
+const LEAST_NORMAL: f64 = 2.2250738585072014e-308;
+
+// The Cholesky factor of X'X by rows, as far as the pivots hold; +0 in the rows beyond.
+pub fn factor(columns: &[f64], n: usize, k: usize, l: &mut [[f64; 8]; 8]) -> Pivots
+    requires { ⌜ (k ≤ 8) × (k * n ≡ length (now columns)) ⌝ }
+    ensures { λ r. ⌜ r ≡ pivotsOf (now (columns .entry)) n k ⌝ }
+    ensures { λ r. ⌜ now (l .exit) ≡ factorOf (now (columns .entry)) n (rowsMade k (pivotsOf (now (columns .entry)) n k)) ⌝ }
+{
+    *l = [[0.0f64; 8]; 8];
+    for i in 0..k {
+        let mut row = cholesky::left_of(columns, n, l, i);
+        let square = cholesky::gram(columns, n, i, i);
+        let pivot = square - cholesky::products(&row, &row, i);
+        if pivot <= TOLERANCE * max(square, LEAST_NORMAL) {
+            return Pivots::Fails(i);
+        }
+        row[i] = sqrt(pivot);
+        l[i] = row;
+    }
+    Pivots::Hold
 }
 
 // Whether the law serves, or refusal 13 of stage 5, or 14.
