@@ -21,6 +21,14 @@ unfoldable pub fill : {A : Type 0} → (ℕ → A) → ℕ → List A → List A
 fill f zero l = l
 fill f (suc k) l = set (fill f k l) k (f k)
 
+-- of a place other than k, whether it is below k or below k + 1 is one question
+other-test : (p k : ℕ) → (p ≡ k → ⊥) → ltb p k ≡ ltb p (suc k)
+other-test p k s = by (decLt p k)
+  where
+    by : Dec (p < k) → ltb p k ≡ ltb p (suc k)
+    by (yes l) = rw (lt-ltb p k l, lt-ltb p (suc k) (omega arith))
+    by (no l) = rw (le-ltb p k (omega arith), le-ltb p (suc k) (omega arith))
+
 module _ {A : Type 0} (f : ℕ → A) where
   pub fill-none : (l : List A) → fill f 0 l ≡ l
   unfolding fill
@@ -38,17 +46,11 @@ module _ {A : Type 0} (f : ℕ → A) where
   getD-fill : (k p : ℕ) (l : List A) (d : A) → p < length l → getD (fill f k l) p d ≡ cond (ltb p k) (f p) (getD l p d)
   unfolding fill
   getD-fill zero p l d h = rw (le-ltb p 0 (omega arith))
-  getD-fill (suc k) p l d h = pick (ℕ-discrete p k)
+  getD-fill (suc k) p l d h = pick (ℕ-discrete p k) (getD-fill k p l d h)
     where
-      same-test : (p ≡ k → ⊥) → ltb p k ≡ ltb p (suc k)
-      same-test s = by (decLt p k)
-        where
-          by : Dec (p < k) → ltb p k ≡ ltb p (suc k)
-          by (yes l) = rw (lt-ltb p k l, lt-ltb p (suc k) (omega arith))
-          by (no l) = rw (le-ltb p k (omega arith), le-ltb p (suc k) (omega arith))
-      pick : Dec (p ≡ k) → getD (set (fill f k l) k (f k)) p d ≡ cond (ltb p (suc k)) (f p) (getD l p d)
-      pick (yes s) = rw (s, lt-ltb k (suc k) (omega arith)) (getD-set-same (fill f k l) k (f k) d (rw (length-fill k l, ← s) h))
-      pick (no s) = getD-set-other (fill f k l) k p (f k) d s ∙ getD-fill k p l d h ∙ rw (same-test s)
+      pick : Dec (p ≡ k) → getD (fill f k l) p d ≡ cond (ltb p k) (f p) (getD l p d) → getD (set (fill f k l) k (f k)) p d ≡ cond (ltb p (suc k)) (f p) (getD l p d)
+      pick (yes s) e = rw (s, lt-ltb k (suc k) (omega arith)) (getD-set-same (fill f k l) k (f k) d (rw (length-fill k l, ← s) h))
+      pick (no s) e = getD-set-other (fill f k l) k p (f k) d s ∙ e ∙ rw (other-test p k s)
 
   -- every place stored
   pub fill-all : (l : List A) (d : A) → fill f (length l) l ≡ table f (length l)

@@ -1,3 +1,5 @@
 pub mod SheetLaws
 pub mod FactorLaws
 pub mod FillLaws
+pub mod InverseLaws
+pub mod TraceLaws

@@ -4,15 +4,9 @@ ghost use Prim.Native.Nat.{_+_, _*_, _≤_, _<_};
 ghost use lib.ListN.{length};
 ghost use Rattle.floats.specs.Sums.{sumOf};
 ghost use Rattle.floats.specs.Words.{_⊗_, _‼_};
-ghost use Rattle.design.specs.Factor.{gram, leftOf};
+ghost use Rattle.design.specs.Factor.{leftOf};
 
-// The products of columns i and j, summed: entry (i, j) of X'X.
-pub fn gram(columns: &[f64], n: usize, i: usize, j: usize) -> f64
-    requires { ⌜ (i * n + n ≤ length (now columns)) × (j * n + n ≤ length (now columns)) ⌝ }
-    ensures { λ r. ⌜ r ≡ gram (now (columns .entry)) n i j ⌝ }
-{
-    floats::sums::sum_products(columns, i * n, columns, j * n, n)
-}
+use super::traces::column_products;
 
 // The first j products of two rows, summed.
 pub fn products(a: &[f64; 8], b: &[f64; 8], j: usize) -> f64
@@ -33,7 +27,7 @@ pub fn left_of(columns: &[f64], n: usize, l: &[[f64; 8]; 8], i: usize) -> [f64; 
 {
     let mut row = [0.0f64; 8];
     for j in 0..i {
-        row[j] = (gram(columns, n, i, j) - products(&row, &l[j], j)) / l[j][j];
+        row[j] = (column_products(columns, columns, n, i, j) - products(&row, &l[j], j)) / l[j][j];
     }
     row
 }

@@ -3,6 +3,9 @@
 // The k columns of n rows are one run, column after column; residuals do not appear.
 
 mod cholesky;
+mod difference;
+mod lower;
+mod traces;
 
 ghost use mathlib.Core.Path.{_≡_};
 ghost use Prim.Native.Nat.{_*_, _≤_, _<_};
@@ -116,7 +119,7 @@ pub fn factor(columns: &[f64], n: usize, k: usize, l: &mut [[f64; 8]; 8]) -> Piv
     *l = [[0.0f64; 8]; 8];
     for i in 0..k {
         let mut row = cholesky::left_of(columns, n, l, i);
-        let square = cholesky::gram(columns, n, i, i);
+        let square = traces::column_products(columns, columns, n, i, i);
         let pivot = square - cholesky::products(&row, &row, i);
         if pivot <= TOLERANCE * max(square, LEAST_NORMAL) {
             return Pivots::Fails(i);

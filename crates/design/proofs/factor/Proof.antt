@@ -15,7 +15,7 @@ use Rattle.design.proofs.factor.Statement.{statement}
 use Rattle.design.proofs.factor.Tie as tie
 use Rattle.design.proofs.factor.Reads as reads
 use Rattle.design.proofs.factor.Lts as lts
-use Rattle.design.proofs.cholesky.gram.Reads as gram-reads
+
 use Rattle.design.proofs.cholesky.left_of.Reads as left-of-reads
 use Rattle.design.proofs.cholesky.products.Reads as products-reads
 use Rattle.floats.proofs.signs.max.Reads as max-reads
@@ -34,8 +34,8 @@ loop-holds c = (omega arith, sym (factor-none _ _), refl)
 left-of-requires : tie.Need-left-of-requires Inv-loop μ-loop
 left-of-requires c κs = omega (arith, row-in (c .before .before .before .before .before .args .n) (c .before .loop-test .taken))
 
-gram-requires : tie.Need-gram-requires Inv-loop μ-loop
-gram-requires c κs = omega (arith, row-in (c .before .before .before .before .before .before .args .n) (c .before .before .loop-test .taken))
+column-products-requires : tie.Need-column-products-requires Inv-loop μ-loop
+column-products-requires c κs = omega (arith, row-in (c .before .before .before .before .before .before .args .n) (c .before .before .loop-test .taken))
 
 products-requires : tie.Need-products-requires Inv-loop μ-loop
 products-requires c κs = search needs
@@ -45,7 +45,7 @@ max-requires c κs = search needs
 
 returns : tie.Need-returns Inv-loop μ-loop
 unfolding failsAt
-returns c = let p = fails-first (c .before .before .before .before .before .before .before .before .before .before .before .before .args .columns .now) (c .before .before .before .before .before .before .before .before .before .before .before .before .args .n) {k = c .before .before .before .before .before .before .before .before .before .before .before .before .args .k} {i = c .before .before .before .before .before .before .before .before .before .loop .i} (c .before .before .before .before .before .before .before .before .loop-test .taken) (c .before .before .before .before .before .before .before .before .before .loop .inv .2) (rw (c .before .max .ensures, c .before .before .products .ensures, c .before .before .before .before .before .gram .ensures, c .before .before .before .before .before .before .left-of .ensures, c .before .before .before .before .before .before .before .before .before .loop .inv .1) at (c .if1 .taken)) in (sym p, rw p (c .before .before .before .before .before .before .before .before .before .loop .inv .1))
+returns c = let p = fails-first (c .before .before .before .before .before .before .before .before .before .before .before .before .args .columns .now) (c .before .before .before .before .before .before .before .before .before .before .before .before .args .n) {k = c .before .before .before .before .before .before .before .before .before .before .before .before .args .k} {i = c .before .before .before .before .before .before .before .before .before .loop .i} (c .before .before .before .before .before .before .before .before .loop-test .taken) (c .before .before .before .before .before .before .before .before .before .loop .inv .2) (rw (c .before .max .ensures, c .before .before .products .ensures, c .before .before .before .before .before .column-products .ensures, c .before .before .before .before .before .before .left-of .ensures, c .before .before .before .before .before .before .before .before .before .loop .inv .1) at (c .if1 .taken)) in (sym p, rw p (c .before .before .before .before .before .before .before .before .before .loop .inv .1))
 
 sqrt-requires : tie.Need-sqrt-requires Inv-loop μ-loop
 sqrt-requires c κs = search needs
@@ -70,7 +70,7 @@ loop-less c = search needs
 
 loop-again : tie.Need-loop-again Inv-loop μ-loop
 unfolding failsAt
-loop-again c = (omega arith, rw (c .sqrt .ensures, c .before .before .before .products .ensures, c .before .before .before .before .before .before .gram .ensures, c .before .before .before .before .before .before .before .left-of .ensures, c .before .before .before .before .before .before .before .before .before .before .loop .inv .1) (sym (factor-more (c .before .before .before .before .before .before .before .before .before .before .before .before .before .args .columns .now) (c .before .before .before .before .before .before .before .before .before .before .before .before .before .args .n) (c .before .before .before .before .before .before .before .before .before .before .loop .i))), first-not _ _ (c .before .before .before .before .before .before .before .before .before .before .loop .inv .2) (rw (c .before .before .max .ensures, c .before .before .before .products .ensures, c .before .before .before .before .before .before .gram .ensures, c .before .before .before .before .before .before .before .left-of .ensures, c .before .before .before .before .before .before .before .before .before .before .loop .inv .1) at (c .before .if1 .left)))
+loop-again c = (omega arith, rw (c .sqrt .ensures, c .before .before .before .products .ensures, c .before .before .before .before .before .before .column-products .ensures, c .before .before .before .before .before .before .before .left-of .ensures, c .before .before .before .before .before .before .before .before .before .before .loop .inv .1) (sym (factor-more (c .before .before .before .before .before .before .before .before .before .before .before .before .before .args .columns .now) (c .before .before .before .before .before .before .before .before .before .before .before .before .before .args .n) (c .before .before .before .before .before .before .before .before .before .before .loop .i))), first-not _ _ (c .before .before .before .before .before .before .before .before .before .before .loop .inv .2) (rw (c .before .before .max .ensures, c .before .before .before .products .ensures, c .before .before .before .before .before .before .column-products .ensures, c .before .before .before .before .before .before .before .left-of .ensures, c .before .before .before .before .before .before .before .before .before .before .loop .inv .1) at (c .before .if1 .left)))
 
 returns-2 : tie.Need-returns-2 Inv-loop μ-loop
 returns-2 c = let h : c .before .loop .i ≡ c .before .before .before .before .args .k = omega arith in let p = hold-all (c .before .before .before .before .args .columns .now) (c .before .before .before .before .args .n) (c .before .before .before .before .args .k) (rw h at (c .before .loop .inv .2)) in (sym p, rw (p, ← h) (c .before .loop .inv .1))
@@ -83,7 +83,7 @@ factor-spec =
     μ-loop
     loop-holds
     left-of-requires
-    gram-requires
+    column-products-requires
     products-requires
     max-requires
     returns

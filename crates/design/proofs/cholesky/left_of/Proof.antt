@@ -13,7 +13,7 @@ use Rattle.design.proofs.cholesky.left_of.Statement.{statement}
 use Rattle.design.proofs.cholesky.left_of.Tie as tie
 use Rattle.design.proofs.cholesky.left_of.Reads as reads
 use Rattle.design.proofs.cholesky.left_of.Lts as lts
-use Rattle.design.proofs.cholesky.gram.Reads as gram-reads
+
 use Rattle.design.proofs.cholesky.products.Reads as products-reads
 
 abbrev Inv-loop : tie.InvT-loop
@@ -26,8 +26,8 @@ loop-holds : tie.Need-loop-holds Inv-loop μ-loop
 unfolding turns leftTo
 loop-holds c = (omega arith, refl)
 
-gram-requires : tie.Need-gram-requires Inv-loop μ-loop
-gram-requires c κs = omega (arith, row-in (c .before .before .before .args .n) (c .loop-test .taken))
+column-products-requires : tie.Need-column-products-requires Inv-loop μ-loop
+column-products-requires c κs = omega (arith, row-in (c .before .before .before .args .n) (c .loop-test .taken))
 
 mul-products : tie.Need-mul-products Inv-loop μ-loop
 mul-products c = search needs
@@ -63,7 +63,7 @@ loop-less : tie.Need-loop-less Inv-loop μ-loop
 loop-less c = search needs
 
 loop-again : tie.Need-loop-again Inv-loop μ-loop
-loop-again c = (omega arith, rw (c .before .before .before .before .gram .ensures, c .before .products .ensures, c .before .before .before .before .before .before .loop .inv .1) (sym (left-more (c .before .before .before .before .before .before .before .before .args .columns .now) (c .before .before .before .before .before .before .before .before .args .n) (c .before .before .before .before .before .before .before .before .args .l .now) (c .before .before .before .before .before .before .before .before .args .i) (c .before .before .before .before .before .before .loop .j))))
+loop-again c = (omega arith, rw (c .before .before .before .before .column-products .ensures, c .before .products .ensures, c .before .before .before .before .before .before .loop .inv .1) (sym (left-more (c .before .before .before .before .before .before .before .before .args .columns .now) (c .before .before .before .before .before .before .before .before .args .n) (c .before .before .before .before .before .before .before .before .args .l .now) (c .before .before .before .before .before .before .before .before .args .i) (c .before .before .before .before .before .before .loop .j))))
 
 returns : tie.Need-returns Inv-loop μ-loop
 returns c = cc (le-antisymm (c .before .loop .inv .0) (c .loop-test .left))
@@ -75,7 +75,7 @@ left-of-spec =
     Inv-loop
     μ-loop
     loop-holds
-    gram-requires
+    column-products-requires
     mul-products
     index-1-products
     products-requires
