@@ -3,3 +3,5 @@ pub mod FactorLaws
 pub mod FillLaws
 pub mod InverseLaws
 pub mod TraceLaws
+pub mod EveryLaws
+pub mod DifferenceLaws

@@ -28,7 +28,6 @@ restOf x n i j l-i l-j = gram x n i j ⊖ sumOf j (λ m. l-i ‼ m ⊗ l-j ‼ m
 
 -- the first j numbers of row i of the factor, given the rows above it: each from those before it
 unfoldable pub leftTo : List Float → ℕ → Matrix → ℕ → ℕ → List Float
-unfolding turns sumOf
 leftTo x n l i j = turns j (λ j l-i. set l-i j (restOf x n i j l-i (rowAt l j) ⊘ entry l j j)) zeroRow
 
 -- row i left of the diagonal
@@ -56,12 +55,10 @@ withRoot x n i l-i = set l-i i (sqrtOf (pivotOf x n i l-i))
 
 -- the first k rows of the factor
 unfoldable pub factorOf : List Float → ℕ → ℕ → Matrix
-unfolding turns leftTo
 factorOf x n k = turns k (λ i l. set l i (withRoot x n i (leftOf x n l i))) zeroMatrix
 
 -- whether pivot i fails, where the rows above are the factor's
 unfoldable pub failsAt : List Float → ℕ → ℕ → Bool
-unfolding leftTo factorOf
 failsAt x n i = fails x n i (leftOf x n (factorOf x n i) i)
 
 abbrev pub pivotsBy : Found → Pivots
@@ -70,7 +67,6 @@ pivotsBy Nothing = Hold
 
 -- whether all k pivots hold, or the first that fails
 unfoldable pub pivotsOf : List Float → ℕ → ℕ → Pivots
-unfolding firstWhere failsAt
 pivotsOf x n k = pivotsBy (firstWhere k (failsAt x n))
 
 -- how many rows of the factor are made: all k, or those above the pivot that fails

@@ -21,7 +21,6 @@ lowerEntry l r i j =
 
 -- the first k rows of L^-1
 unfoldable pub lowerInverse : Matrix → ℕ → Matrix
-unfolding turns row
 lowerInverse l k = turns k (λ i r. set r i (row (i + 1) (lowerEntry l r i))) zeroMatrix
 
 -- entry (i, j) of R' R for the lower triangle R: r(m, i) r(m, j) summed from m = max(i, j) on
@@ -30,7 +29,6 @@ squareEntry r k i j = sumOf (k - max i j) (λ m. entry r (max i j + m) i ⊗ ent
 
 -- L^-T L^-1
 unfoldable pub inverseFrom : Matrix → ℕ → Matrix
-unfolding matrix lowerInverse
 inverseFrom l k = matrix k (squareEntry (lowerInverse l k) k)
 
 -- (X'X)^-1

@@ -60,7 +60,6 @@ lawBy b c b² n k =
     record { mean = meanOf p n k; variance = varianceOf p q n k }
 
 unfoldable pub lawFrom : List Float → ℕ → ℕ → Matrix → NormalLaw
-unfolding matrix sumOf
 lawFrom x n k inverse =
     let b = productOf k (crossOf x n k) inverse in
     lawBy (traceOf k b) (traceOf k (productOf k (squaresOf x n k) inverse)) (traceOf k (productOf k b b)) n k

@@ -31,11 +31,9 @@ zeroMatrix = replicate 8 zeroRow
 
 -- the row with these first k numbers; the matrix with these entries in its first k rows and columns
 unfoldable pub row : ℕ → (ℕ → Float) → List Float
-unfolding table
 row k f = table (λ j. cond (ltb j k) (f j) plusZero) 8
 
 unfoldable pub matrix : ℕ → (ℕ → ℕ → Float) → Matrix
-unfolding table row
 matrix k f = table (λ i. cond (ltb i k) (row k (f i)) zeroRow) 8
 
 -- a b

@@ -21,8 +21,12 @@ ghost use Rattle.design.specs.Difference.{differenceAt};
 ghost use Rattle.design.specs.Law.{lawFrom, lawAnswer, normalP};
 
 use elementary::NormalLaw;
+use elementary::lower_tail;
+use elementary::upper_tail;
 use floats::search::Found;
 use floats::search::first_bad;
+use floats::signs::abs;
+use floats::signs::is_finite;
 use floats::signs::max;
 use roots::sqrt;
 
@@ -130,6 +134,57 @@ pub fn factor(columns: &[f64], n: usize, k: usize, l: &mut [[f64; 8]; 8]) -> Piv
     Pivots::Hold
 }
 
+// (X'X)^-1 = L^-T L^-1 from the factor L of k columns.
+pub fn inverse_of_factor(l: [[f64; 8]; 8], k: usize) -> [[f64; 8]; 8]
+    requires { ⌜ k ≤ 8 ⌝ }
+    ensures { λ r. ⌜ r ≡ inverseFrom l k ⌝ }
+{
+    let lower = lower::lower_inverse(&l, k);
+    let mut inverse = [[0.0f64; 8]; 8];
+    for i in 0..k {
+        inverse[i] = lower::square_row(&lower, k, i);
+    }
+    inverse
+}
+
+// Whether each entry of the inverse is finite: where not, refusal 13, place 1.
+pub fn inverse_is_finite(inverse: [[f64; 8]; 8], k: usize) -> bool
+    requires { ⌜ k ≤ 8 ⌝ }
+    ensures { λ r. ⌜ r ≡ finiteMatrix k inverse ⌝ }
+{
+    for i in 0..k {
+        for j in 0..k {
+            if !is_finite(inverse[i][j]) {
+                return false;
+            }
+        }
+    }
+    true
+}
+
+// A v for the difference matrix A: diagonal 1, 2, .., 2, 1 and -1 beside it.
+pub fn diff_matrix_times(v: &[f64], av: &mut [f64])
+    requires { ⌜ length (now v) ≡ length (now av) ⌝ }
+    ensures { λ _. ⌜ now (av .exit) ≡ table (differenceAt (λ s. now (v .entry) ‼ s) (length (now (v .entry)))) (length (now (v .entry))) ⌝ }
+{
+    for t in 0..v.len() {
+        av[t] = difference::difference_at(v, t);
+    }
+}
+
+// The exact null mean and variance of the statistic, by traces. A X is worked out once, in room that fits.
+pub fn normal_law(columns: &[f64], n: usize, k: usize, inverse: [[f64; 8]; 8]) -> NormalLaw
+    requires { ⌜ (n ≤ 256) × (k ≤ 8) × (k * n ≡ length (now columns)) ⌝ }
+    ensures { λ r. ⌜ r ≡ lawFrom (now (columns .entry)) n k inverse ⌝ }
+{
+    if columns.len() <= 256 {
+        let mut room = [0.0f64; 256];
+        return traces::law_in(columns, n, k, &inverse, &mut room);
+    }
+    let mut room = [0.0f64; 2048];
+    traces::law_in(columns, n, k, &inverse, &mut room)
+}
+
 // Whether the law serves, or refusal 13 of stage 5, or 14.
 pub enum LawAnswer {
     Usable(NormalLaw),
@@ -142,4 +197,30 @@ pub enum Alternative {
     Greater,
     Less,
     TwoSided,
+}
+
+pub fn check_law(law: NormalLaw) -> LawAnswer
+    ensures { λ r. ⌜ r ≡ lawAnswer law ⌝ }
+{
+    if !is_finite(law.mean) {
+        return LawAnswer::NotFinite;
+    }
+    if !is_finite(law.variance) {
+        return LawAnswer::NotFinite;
+    }
+    if 0.0 < law.variance {
+        return LawAnswer::Usable(law);
+    }
+    LawAnswer::NotSpread
+}
+
+// p by the normal law. With fewer than 5 rows p is 1 and no law is worked out: that is the caller's.
+pub fn normal_p(law: NormalLaw, statistic: f64, alternative: Alternative) -> f64
+    ensures { λ r. ⌜ r ≡ normalP law statistic alternative ⌝ }
+{
+    match alternative {
+        Alternative::Greater => lower_tail(law, statistic),
+        Alternative::Less => upper_tail(law, statistic),
+        Alternative::TwoSided => 2.0 * upper_tail(law, law.mean + abs(statistic - law.mean)),
+    }
 }

@@ -1,10 +1,13 @@
-// Products of matrices and of runs, and their traces.
+// Products of runs and of matrices, their traces, and the law that those give.
 ghost use mathlib.Core.Path.{_≡_};
 ghost use Prim.Native.Nat.{_+_, _*_, _≤_, _<_};
 ghost use lib.ListN.{length};
 ghost use Rattle.floats.specs.Sums.{sumOf, sumProducts};
 ghost use Rattle.floats.specs.Words.{_⊗_};
 ghost use Rattle.design.specs.Matrix.{entry, row, matrix, productOf, traceOf};
+ghost use Rattle.design.specs.Law.{count, lawBy, lawFrom};
+
+use elementary::NormalLaw;
 
 // The products of column i of u and column j of v, summed: entry (i, j) of U' V.
 pub fn column_products(u: &[f64], v: &[f64], n: usize, i: usize, j: usize) -> f64
@@ -96,4 +99,44 @@ pub fn trace_of_product(a: &[[f64; 8]; 8], b: &[[f64; 8]; 8], k: usize) -> f64
         s = s + product_entry(a, b, k, i, i);
     }
     s
+}
+
+fn count(n: usize) -> f64
+    requires { ⌜ n ≤ 256 ⌝ }
+    ensures { λ r. ⌜ r ≡ count n ⌝ }
+{
+    n as f64
+}
+
+// The law from the traces of B, C and B².
+fn law_by(b: f64, c: f64, bb: f64, n: usize, k: usize) -> NormalLaw
+    requires { ⌜ (n ≤ 256) × (k ≤ 8) ⌝ }
+    ensures { λ r. ⌜ r ≡ lawBy b c bb n k ⌝ }
+{
+    let rows = count(n);
+    let free = rows - count(k);
+    let p = 2.0 * (rows - 1.0) - b;
+    let q = 2.0 * (3.0 * rows - 4.0) - 2.0 * c + bb;
+    let mean = p / free;
+    NormalLaw {
+        mean,
+        variance: 2.0 / (free * (free + 2.0)) * (q - p * mean),
+    }
+}
+
+// The law of the columns, with room for A X.
+pub fn law_in(columns: &[f64], n: usize, k: usize, inverse: &[[f64; 8]; 8], room: &mut [f64]) -> NormalLaw
+    requires { ⌜ (n ≤ 256) × (k ≤ 8) × (k * n ≤ length (now columns)) × (k * n ≤ length (now room)) ⌝ }
+    ensures { λ r. ⌜ r ≡ lawFrom (now (columns .entry)) n k (now (inverse .entry)) ⌝ }
+{
+    super::difference::difference_columns(columns, n, k, room);
+    let b = product(&cross(columns, room, n, k), inverse, k);
+    let c = cross(room, room, n, k);
+    law_by(
+        trace(&b, k),
+        trace_of_product(&c, inverse, k),
+        trace_of_product(&b, &b, k),
+        n,
+        k,
+    )
 }

@@ -1,3 +1,6 @@
+use Rattle.floats.specs.Sums.{sumProducts}
+use Rattle.design.specs.Matrix.{zeroMatrix, row}
+use Rattle.design.proofs.FillLaws.{fill, fill-none, fill-more, fill-matrix}
 use Prim.Native.Nat.{ℕ, zero, suc, _≤_, _<_, _-_, _*_, _+_}
 use native.Mathlib.Omega.{arith}
 use native.Mathlib.Numerals.{add-one}
@@ -12,13 +15,13 @@ use Rattle.design.proofs.traces.cross.Lts as lts
 use Rattle.design.proofs.traces.cross_row.Reads as cross-row-reads
 
 abbrev Inv-loop : tie.InvT-loop
-Inv-loop u v n k c₀ i₀ c i = ?
+Inv-loop u v n k c₀ i₀ c i = (i ≤ k) × (c ≡ fill (λ i. row k (λ j. sumProducts u (i * n) v (j * n) n)) i zeroMatrix)
 
 abbrev μ-loop : tie.MeasureT-loop
-μ-loop u v n k c₀ i₀ c i = ?
+μ-loop u v n k c₀ i₀ c i = k - i
 
 loop-holds : tie.Need-loop-holds Inv-loop μ-loop
-loop-holds c = search needs
+loop-holds c = (omega arith, sym (fill-none _ _))
 
 cross-row-requires : tie.Need-cross-row-requires Inv-loop μ-loop
 cross-row-requires c κs = search needs
@@ -36,10 +39,10 @@ loop-less : tie.Need-loop-less Inv-loop μ-loop
 loop-less c = search needs
 
 loop-again : tie.Need-loop-again Inv-loop μ-loop
-loop-again c = search needs
+loop-again c = (omega arith, rw (c .cross-row .ensures, c .before .before .loop .inv .1) (sym (fill-more _ (c .before .before .loop .i) zeroMatrix)))
 
 returns : tie.Need-returns Inv-loop μ-loop
-returns c = search needs
+returns c = let h : c .before .loop .i ≡ c .before .before .before .before .args .k = omega arith in rw (c .before .loop .inv .1, h) (fill-matrix (c .before .before .before .before .args .k) _)
 
 pub cross-spec : {M : Type 1} → statement M
 cross-spec =
