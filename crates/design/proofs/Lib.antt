@@ -5,3 +5,4 @@ pub mod InverseLaws
 pub mod TraceLaws
 pub mod EveryLaws
 pub mod DifferenceLaws
+pub mod CrossLaws
