@@ -1,0 +1,94 @@
+-- The normal law of the Durbin-Watson statistic, with the exact null mean and variance by traces (Durbin and Watson, 1971, as in R's dwtest), and p by its tails.
+-- The columns of X are one run x of n rows each. Every operation is rounded, in this order; sums run first to last, from -0. Refusals 13, stage 5, and 14 of document 01.
+-- Definitions only. Assumes nothing.
+use Prim.Native.Nat.{ℕ, _+_, _*_}
+use mathlib.Core.Bool.{Bool, _&&_, cond}
+use mathlib.Core.List.{List}
+use lib.Dec.{ltb}
+use lib.IntN.{pos}
+use lib.Ieee.{Float, binary64, lt, ofInt}
+use lib.Ieee.Scale.{finite}
+use Rattle.floats.specs.Words.{_⊕_, _⊖_, _⊗_, _⊘_, _‼_, float, plusZero, one, two}
+use Rattle.floats.specs.Sums.{sumOf}
+use Rattle.floats.specs.Signs.{absOf}
+use Rattle.elementary.specs.declared.NormalLaw.{NormalLaw}
+use Rattle.elementary.specs.Tails.{lowerTail, upperTail}
+use Rattle.design.specs.Matrix.{Matrix, matrix, productOf, traceOf}
+use Rattle.design.specs.Inverse.{inverseOf}
+use Rattle.design.specs.Difference.{differenceAt}
+use Rattle.design.specs.declared.LawAnswer.{LawAnswer}
+use Rattle.design.specs.declared.LawAnswer.the-variants.{Usable, NotFinite, NotSpread}
+use Rattle.design.specs.declared.Alternative.{Alternative}
+use Rattle.design.specs.declared.Alternative.the-variants.{Greater, Less, TwoSided}
+
+-- a count as a number, and 3 and 4
+abbrev pub count : ℕ → Float
+count n = ofInt binary64 (pos n)
+
+abbrev pub three : Float
+three = float 0x4008000000000000
+
+abbrev pub four : Float
+four = float 0x4010000000000000
+
+-- row t of column j of X, and of A X
+abbrev pub columnAt : List Float → ℕ → ℕ → ℕ → Float
+columnAt x n j t = x ‼ (j * n + t)
+
+abbrev pub differenceOf : List Float → ℕ → ℕ → ℕ → Float
+differenceOf x n j t = differenceAt (columnAt x n j) n t
+
+-- X' A X, and (A X)' (A X)
+abbrev pub crossOf : List Float → ℕ → ℕ → Matrix
+crossOf x n k = matrix k (λ i j. sumOf n (λ t. columnAt x n i t ⊗ differenceOf x n j t))
+
+abbrev pub squaresOf : List Float → ℕ → ℕ → Matrix
+squaresOf x n k = matrix k (λ i j. sumOf n (λ t. differenceOf x n i t ⊗ differenceOf x n j t))
+
+-- the law from P = 2 (n - 1) - tr B and Q = 2 (3n - 4) - 2 tr C + tr B², where B = X'AX (X'X)^-1 and C = (AX)'(AX) (X'X)^-1:
+-- mean P / (n - k), variance 2 / ((n - k) (n - k + 2)) (Q - P mean)
+abbrev pub meanOf : Float → ℕ → ℕ → Float
+meanOf p n k = p ⊘ (count n ⊖ count k)
+
+abbrev pub varianceOf : Float → Float → ℕ → ℕ → Float
+varianceOf p q n k = two ⊘ ((count n ⊖ count k) ⊗ (count n ⊖ count k ⊕ two)) ⊗ (q ⊖ p ⊗ meanOf p n k)
+
+abbrev pub lawBy : Float → Float → Float → ℕ → ℕ → NormalLaw
+lawBy b c b² n k =
+    let p = two ⊗ (count n ⊖ one) ⊖ b in
+    let q = two ⊗ (three ⊗ count n ⊖ four) ⊖ two ⊗ c ⊕ b² in
+    record { mean = meanOf p n k; variance = varianceOf p q n k }
+
+unfoldable pub lawFrom : List Float → ℕ → ℕ → Matrix → NormalLaw
+lawFrom x n k inverse =
+    let b = productOf k (crossOf x n k) inverse in
+    lawBy (traceOf k b) (traceOf k (productOf k (squaresOf x n k) inverse)) (traceOf k (productOf k b b)) n k
+
+abbrev pub lawOf : List Float → ℕ → ℕ → NormalLaw
+lawOf x n k = lawFrom x n k (inverseOf x n k)
+
+-- whether the law serves: its mean and variance are finite, and its variance is above 0
+abbrev pub lawAnswer : NormalLaw → LawAnswer
+lawAnswer law =
+    cond (finite (law .mean) && finite (law .variance)) (cond (lt plusZero (law .variance)) (Usable law) NotSpread) NotFinite
+
+-- document 01's number for it, 0 where nothing is refused, and its place
+abbrev pub lawNumber : LawAnswer → ℕ
+lawNumber (Usable law) = 0
+lawNumber NotFinite = 13
+lawNumber NotSpread = 14
+
+abbrev pub lawPlace : LawAnswer → ℕ
+lawPlace (Usable law) = 0
+lawPlace NotFinite = 5
+lawPlace NotSpread = 0
+
+-- with fewer than 5 rows no law is worked out, and p is 1 (path 4)
+abbrev pub tooFewForLaw : ℕ → Bool
+tooFewForLaw n = ltb n 5
+
+-- p of the statistic d: for negative autocorrelation the upper tail, for positive the lower, and for either twice the upper tail as far above the mean as d is from it
+abbrev pub normalP : NormalLaw → Float → Alternative → Float
+normalP law d Greater = lowerTail law d
+normalP law d Less = upperTail law d
+normalP law d TwoSided = two ⊗ upperTail law (law .mean ⊕ absOf (d ⊖ law .mean))
