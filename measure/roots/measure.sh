@@ -14,6 +14,7 @@ for tool in "$rustc" "$cc" python3; do
     command -v "$tool" >/dev/null || { echo "measure.sh: no $tool on the PATH" >&2; exit 1; }
 done
 echo '#include <mpfr.h>' | "$cc" -E - >/dev/null 2>&1 || { echo "measure.sh: no mpfr.h (Debian: apt-get install libmpfr-dev)" >&2; exit 1; }
+[ -f oracle/tools/strip.py ] || { echo "measure.sh: no oracle/tools/strip.py, which cuts the clauses out" >&2; exit 1; }
 mkdir -p $out/src
 # The .rt files with their clauses cut out are Rust.
 python3 - $out/src <<'PYTHON'
