@@ -6,3 +6,6 @@ pub mod TraceLaws
 pub mod EveryLaws
 pub mod DifferenceLaws
 pub mod CrossLaws
+pub mod Worked
+pub mod NotBelow
+pub mod Bounds
