@@ -1,0 +1,4 @@
+pub mod RowLaws
+pub mod MatrixLaws
+pub mod Commutes
+pub mod ReflectionLaws
