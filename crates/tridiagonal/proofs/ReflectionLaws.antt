@@ -2,10 +2,10 @@
 -- keeps a matrix symmetric to the bit. Assumes nothing.
 use Prim.Native.Nat.{ℕ, zero, suc, _+_, _*_, _-_, _≤_, _<_}
 use native.Mathlib.Numerals.{add-one}
-use native.Mathlib.Nat.{le-antisymm}
+use native.Mathlib.Nat.{zero-add}
 use native.Mathlib.Omega.{arith}
 use native.Mathlib.Decide.{ℕ-discrete}
-use mathlib.Core.Path.{_≡_, refl, ap, sym, _∙_}
+use mathlib.Core.Path.{_≡_, refl, ap, sym, subst, _∙_}
 use mathlib.Core.Logic.{_⊎_, inl, inr, ⊎-elim}
 use mathlib.Core.Bool.{Bool, true, false, cond, _&&_, false≢true}
 use mathlib.Core.List.{List}
@@ -13,8 +13,8 @@ use lib.Dec.{leb, ltb, eqb}
 use lib.ListN.{length, set}
 use lib.Ieee.{Float, nan, eq}
 use borrow.Author.Tests.{lt-ltb, le-ltb, eq-eqb, ne-eqb, ltb-true, eqb-true}
-use Rattle.floats.specs.Words.{_⊕_, _⊖_, _⊗_, _‼_, minusZero, plusZero}
-use Rattle.floats.specs.Sums.{sumOf, sumSquares}
+use Rattle.floats.specs.Words.{_⊕_, _⊖_, _⊗_, _⊘_, _‼_, minusZero, plusZero, two}
+use Rattle.floats.specs.Sums.{sumOf, sumSquares, sumProducts}
 use Rattle.floats.specs.Tables.{table, square, part, withPart}
 use Rattle.floats.specs.Turns.{turns}
 use Rattle.floats.proofs.TurnLaws.{turns-keep}
@@ -26,12 +26,12 @@ use Rattle.tridiagonal.proofs.MatrixLaws.{lt-or-le, table-same, square-
 use Rattle.tridiagonal.proofs.Commutes.{sum-swap, product-swap}
 
 -- ---- column c, from row c
-pub column-of-row : (n c start : ℕ) (a : List Float) → length a ≡ n * n → c + 1 < n → Symmetric n a → start ≡ c * n + (c + 1)
-    → table (λ j. part start (start + below n c) a ‼ j) (below n c) ≡ columnOf n c a
+pub column-of-row : (n c start m : ℕ) (a : List Float) → length a ≡ n * n → c + 1 < n → Symmetric n a → m ≡ below n c → start ≡ c * n + (c + 1)
+    → table (λ j. part start (start + m) a ‼ j) m ≡ columnOf n c a
 unfolding columnOf
-column-of-row n c start a e h s z =
-    let w : start + below n c ≡ c * n + n = omega arith in
-    rw (w, z) (table-same (λ j. part (c * n + (c + 1)) (c * n + n) a ‼ j) (λ t. entry n a (c + 1 + t) c) (below n c)
+column-of-row n c start m a e h s y z =
+    let w : start + m ≡ c * n + n = omega arith in
+    rw (w, z, y) (table-same (λ j. part (c * n + (c + 1)) (c * n + n) a ‼ j) (λ t. entry n a (c + 1 + t) c) (below n c)
     (λ j l. part-entry n c (c + 1) n j a e (omega arith) (omega arith) (omega arith) l ∙ s c (c + 1 + j) (omega arith) (omega arith)))
 
 -- ---- S v, of the first t rows
@@ -47,11 +47,11 @@ module _ (n c : ℕ) (a v : List Float) where
   unfolding imageTo
   length-image t = length-table _ (below n c)
 
-  pub image-more : (t start : ℕ) → length a ≡ n * n → c + 1 < n → t < below n c → start ≡ (c + 1 + t) * n + (c + 1)
-      → table (λ i. imageTo t ‼ i ⊕ part start (start + below n c) a ‼ i ⊗ v ‼ t) (length (imageTo t)) ≡ imageTo (t + 1)
+  pub image-more : (t start m : ℕ) → length a ≡ n * n → c + 1 < n → t < below n c → m ≡ below n c → start ≡ (c + 1 + t) * n + (c + 1)
+      → table (λ i. imageTo t ‼ i ⊕ part start (start + m) a ‼ i ⊗ v ‼ t) (length (imageTo t)) ≡ imageTo (t + 1)
   unfolding imageTo sumOf
-  image-more t start e h l z =
-      let w : start + below n c ≡ (c + 1 + t) * n + n = omega arith in
+  image-more t start m e h l y z =
+      let w : start + m ≡ (c + 1 + t) * n + n = omega arith in
       rw (length-image t, w, z)
       (table-same (λ i. imageTo t ‼ i ⊕ part ((c + 1 + t) * n + (c + 1)) ((c + 1 + t) * n + n) a ‼ i ⊗ v ‼ t) (λ i. sumOf (t + 1) (λ j. entry n a (c + 1 + j) (c + 1 + i) ⊗ v ‼ j)) (below n c)
       (λ i k. rw (getD-table (λ i. sumOf t (λ j. entry n a (c + 1 + j) (c + 1 + i) ⊗ v ‼ j)) (below n c) i nan k,
@@ -69,31 +69,36 @@ module _ (n c : ℕ) (a v q : List Float) where
   unfoldable pub updated : ℕ → ℕ → Float
   updated i j = cond (ltb c i && ltb c j) (block n c a v q i j) (entry n a i j)
 
-  pub update-none : length a ≡ n * n → a ≡ rowsTo n updated (entry n a) (c + 1)
+  pub update-none : length a ≡ n * n → a ≡ rowsTo n updated (entry n a) (c + 1 + 0)
   unfolding updated
   update-none e =
-      square-of n (entry n a) a e (λ i j h k. refl) ∙ rows-from n updated (entry n a) (c + 1) (λ r k l. rw (le-ltb c r (omega arith)))
+      let z : c + 1 + 0 ≡ c + 1 = omega arith in
+      rw z (square-of n (entry n a) a e (λ i j h k. refl) ∙ rows-from n updated (entry n a) (c + 1) (λ r k l. rw (le-ltb c r (omega arith))))
 
-  pub update-row : (t start : ℕ) → c + 1 < n → t < below n c → start ≡ (c + 1 + t) * n + (c + 1)
-      → withPart start (start + below n c) (rowsTo n updated (entry n a) (c + 1 + t))
-      (table (λ j. part start (start + below n c) (rowsTo n updated (entry n a) (c + 1 + t)) ‼ j ⊖ (v ‼ t ⊗ q ‼ j ⊕ q ‼ t ⊗ v ‼ j)) (length (part start (start + below n c) (rowsTo n updated (entry n a) (c + 1 + t)))))
+  pub update-row : (t start m : ℕ) → c + 1 < n → t < below n c → m ≡ below n c → start ≡ (c + 1 + t) * n + (c + 1)
+      → withPart start (start + m) (rowsTo n updated (entry n a) (c + 1 + t))
+      (table (λ j. part start (start + m) (rowsTo n updated (entry n a) (c + 1 + t)) ‼ j ⊖ (v ‼ t ⊗ q ‼ j ⊕ q ‼ t ⊗ v ‼ j)) (length (part start (start + m) (rowsTo n updated (entry n a) (c + 1 + t)))))
       ≡ rowsTo n updated (entry n a) (c + 1 + (t + 1))
   unfolding updated
-  update-row t start h l z =
+  update-row t start m h l y z =
       let w : c + 1 + (t + 1) ≡ c + 1 + t + 1 = omega arith in
       let x : c + 1 + t - (c + 1) ≡ t = omega arith in
       rw w
-      (rows-kernel n updated (entry n a) (c + 1 + t) start (start + below n c) (c + 1) n (λ j y. y ⊖ (v ‼ t ⊗ q ‼ j ⊕ q ‼ t ⊗ v ‼ j)) (omega arith) z (omega arith) (omega arith) (omega arith)
+      (rows-kernel n updated (entry n a) (c + 1 + t) start (start + m) (c + 1) n (λ j o. o ⊖ (v ‼ t ⊗ q ‼ j ⊕ q ‼ t ⊗ v ‼ j)) (omega arith) z (omega arith) (omega arith) (omega arith)
       (λ k b d. rw (lt-ltb c (c + 1 + t) (omega arith), lt-ltb c k (omega arith), x))
       (λ k b o. ⊎-elim (λ (d : k < c + 1). rw (lt-ltb c (c + 1 + t) (omega arith), le-ltb c k (omega arith))) (λ (d : n ≤ k). absurd (omega arith)) o))
 
+  pub update-all : c + 1 < n → rowsTo n updated (entry n a) (c + 1 + below n c) ≡ square (λ i j. cond (ltb c i && ltb c j) (block n c a v q i j) (entry n a i j)) n
+  unfolding updated
+  update-all h = let z : c + 1 + below n c ≡ n = omega arith in rw z (rows-all n updated (entry n a))
+
 -- ---- the two edges
 module _ (n c : ℕ) (f : ℕ → ℕ → Float) where
-  pub row-edge : (alpha : Float) (start : ℕ) → c + 1 < n → start ≡ c * n + (c + 1)
-      → withPart start (start + below n c) (square f n) (table (λ j. cond (eqb j 0) alpha plusZero) (length (part start (start + below n c) (square f n))))
+  edge-square : (alpha : Float) (start m : ℕ) → c + 1 < n → m ≡ below n c → start ≡ c * n + (c + 1)
+      → withPart start (start + m) (square f n) (table (λ j. cond (eqb j 0) alpha plusZero) (length (part start (start + m) (square f n))))
       ≡ square (λ i j. cond (eqb i c && ltb c j) (edge c alpha j) (f i j)) n
-  row-edge alpha start h z =
-      let w : start + below n c ≡ c * n + n = omega arith in
+  edge-square alpha start m h y z =
+      let w : start + m ≡ c * n + n = omega arith in
       rw (w, z)
       (part-square n f (λ i j. cond (eqb i c && ltb c j) (edge c alpha j) (f i j)) c (omega arith) (omega arith) (omega arith)
       (table (λ j. cond (eqb j 0) alpha plusZero) (length (part (c * n + (c + 1)) (c * n + n) (square f n)))) (length-table _ _ ∙ wide)
@@ -162,6 +167,21 @@ module _ (n c : ℕ) (f : ℕ → ℕ → Float) where
       go true false x y = refl
       go false true x y = refl
       go false false x y = refl
+
+pub row-edge : (n c : ℕ) (a : List Float) (alpha : Float) (start m : ℕ) → length a ≡ n * n → c + 1 < n → m ≡ below n c → start ≡ c * n + (c + 1)
+    → withPart start (start + m) a (table (λ j. cond (eqb j 0) alpha plusZero) (length (part start (start + m) a))) ≡ square (λ i j. cond (eqb i c && ltb c j) (edge c alpha j) (entry n a i j)) n
+row-edge n c a alpha start m e h y z =
+    subst (λ l. withPart start (start + m) l (table (λ j. cond (eqb j 0) alpha plusZero) (length (part start (start + m) l))) ≡ square (λ i j. cond (eqb i c && ltb c j) (edge c alpha j) (entry n a i j)) n)
+    (sym (square-of n (entry n a) a e (λ i j p q. refl))) (edge-square n c (entry n a) alpha start m h y z)
+
+-- ---- q, from S v
+pub correction-of : (v s p : List Float) (vv k : Float) → length s ≡ length v → p ≡ table (λ j. two ⊗ s ‼ j ⊘ vv) (length s) → k ≡ sumProducts v 0 p 0 (length v)
+    → table (λ j. p ‼ j ⊖ k ⊘ vv ⊗ v ‼ j) (length p) ≡ correctionOf v s vv
+unfolding correctionOf
+correction-of v s p vv k e f g =
+    let o = length-table (λ j. two ⊗ s ‼ j ⊘ vv) (length v) in
+    let r = sum-same (length v) (λ t. v ‼ (0 + t) ⊗ p ‼ (0 + t)) (λ t. v ‼ t ⊗ p ‼ t) (λ t l. rw zero-add) in
+    rw (g, r, f, e, o)
 
 -- ---- a reflection keeps a matrix symmetric
 module _ (n c : ℕ) (a : List Float) (alpha : Float) (v q : List Float) where

@@ -6,10 +6,14 @@ use native.Mathlib.Numerals.{add-one}
 use native.Mathlib.Omega.{arith}
 use mathlib.Core.Path.{_≡_, refl, ap, sym, _∙_}
 use mathlib.Core.List.{List, [], _∷_, _++_, append-nil, append-assoc}
-use lib.ListN.{length, getD, set, drop, length-append, length-drop}
-use lib.Seq.{drop-cons, drop-length, set-at, getD-at}
+use lib.ListN.{length, getD, set, drop, length-append, length-drop, length-set}
+use lib.Dec.{eqb}
+use lib.Seq.{drop-cons, drop-length, set-at, getD-at, getD-set-same, getD-set-other, ext-getD}
+use native.Mathlib.Decide.{ℕ-discrete}
+use mathlib.Core.Bool.{cond}
+use borrow.Author.Tests.{ne-eqb}
 use Rattle.floats.specs.Tables.{table}
-use Rattle.floats.proofs.TableLaws.{length-table}
+use Rattle.floats.proofs.TableLaws.{length-table, getD-table}
 
 module _ {A : Type 0} (f : ℕ → A) where
   abbrev pub filled : ℕ → List A → List A
@@ -37,3 +41,15 @@ module _ {A : Type 0} (f : ℕ → A) where
 
   pub filled-all : (l : List A) (j : ℕ) → j ≤ length l → length l ≤ j → filled j l ≡ table f (length l)
   filled-all l j h k = rw (le-antisymm h k, drop-length, append-nil)
+
+-- a run of one number, with another in the first place
+pub lead-table : {A : Type 0} (x y : A) (k : ℕ) → 0 < k → set (table (λ j. y) k) 0 x ≡ table (λ j. cond (eqb j 0) x y) k
+lead-table x y k h =
+    ext-getD y (set (table (λ j. y) k) 0 x) (table (λ j. cond (eqb j 0) x y) k)
+    (length-set (table (λ j. y) k) 0 x ∙ length-table (λ j. y) k ∙ sym (length-table (λ j. cond (eqb j 0) x y) k))
+    (λ p b. let l : p < k = omega (arith, length-set (table (λ j. y) k) 0 x, length-table (λ j. y) k) in
+    pick p l (ℕ-discrete p 0) ∙ sym (getD-table (λ j. cond (eqb j 0) x y) k p y l))
+  where
+    pick : (p : ℕ) → p < k → Dec (p ≡ 0) → getD (set (table (λ j. y) k) 0 x) p y ≡ cond (eqb p 0) x y
+    pick p l (yes e) = rw e (getD-set-same (table (λ j. y) k) 0 x y (omega (arith, length-table (λ j. y) k)))
+    pick p l (no e) = rw (ne-eqb p 0 e) (getD-set-other (table (λ j. y) k) 0 p x y e ∙ getD-table (λ j. y) k p y l)
