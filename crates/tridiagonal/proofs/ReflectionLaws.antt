@@ -11,12 +11,13 @@ use mathlib.Core.Bool.{Bool, true, false, cond, _&&_, false≢true}
 use mathlib.Core.List.{List}
 use lib.Dec.{leb, ltb, eqb}
 use lib.ListN.{length, set}
-use lib.Ieee.{Float, nan, eq}
+use lib.Ieee.{Float, nan, eq, lt, neg}
 use borrow.Author.Tests.{lt-ltb, le-ltb, eq-eqb, ne-eqb, ltb-true, eqb-true}
 use Rattle.floats.specs.Words.{_⊕_, _⊖_, _⊗_, _⊘_, _‼_, minusZero, plusZero, two}
 use Rattle.floats.specs.Sums.{sumOf, sumSquares, sumProducts}
 use Rattle.floats.specs.Tables.{table, square, part, withPart}
 use Rattle.floats.specs.Turns.{turns}
+use Rattle.roots.specs.Root.{sqrtOf}
 use Rattle.floats.proofs.TurnLaws.{turns-keep}
 use Rattle.floats.proofs.ListLaws.{sum-same, length-part}
 use Rattle.floats.proofs.TableLaws.{length-table, getD-table}
@@ -182,6 +183,42 @@ correction-of v s p vv k e f g =
     let o = length-table (λ j. two ⊗ s ‼ j ⊘ vv) (length v) in
     let r = sum-same (length v) (λ t. v ‼ (0 + t) ⊗ p ‼ (0 + t)) (λ t. v ‼ t ⊗ p ‼ t) (λ t l. rw zero-add) in
     rw (g, r, f, e, o)
+
+-- ---- block and edges together
+pub turn-of : (n c : ℕ) (a b d v q : List Float) (alpha : Float) → c + 1 < n
+    → b ≡ square (λ i j. cond (ltb c i && ltb c j) (block n c a v q i j) (entry n a i j)) n
+    → d ≡ square (λ i j. cond (eqb i c && ltb c j) (edge c alpha j) (entry n b i j)) n
+    → square (λ i j. cond (eqb j c && ltb c i) (entry n d c i) (entry n d i j)) n ≡ square (reflectedEntry n c a alpha v q) n
+unfolding reflectedEntry
+turn-of n c a b d v q alpha h e f =
+    square-same n (λ i j. cond (eqb j c && ltb c i) (entry n d c i) (entry n d i j)) (reflectedEntry n c a alpha v q)
+    (λ i j k l. rw (of-d c i (omega arith) k, of-d i j k l, of-b i j k l, eq-eqb c c refl) (go (eqb j c) (ltb c i) (edge c alpha i) (entry n b c i) _))
+  where
+    of-b : (i j : ℕ) → i < n → j < n → entry n b i j ≡ cond (ltb c i && ltb c j) (block n c a v q i j) (entry n a i j)
+    of-b i j k l = rw e (entry-square n (λ i j. cond (ltb c i && ltb c j) (block n c a v q i j) (entry n a i j)) i j k l)
+
+    of-d : (i j : ℕ) → i < n → j < n → entry n d i j ≡ cond (eqb i c && ltb c j) (edge c alpha j) (entry n b i j)
+    of-d i j k l = rw f (entry-square n (λ i j. cond (eqb i c && ltb c j) (edge c alpha j) (entry n b i j)) i j k l)
+
+    go : (p r : Bool) (x y z : Float) → cond (p && r) (cond r x y) z ≡ cond (p && r) x z
+    go true true x y z = refl
+    go true false x y z = refl
+    go false r x y z = refl
+
+-- ---- the three ways a reflection goes, from what was worked out on the way
+module _ (n c : ℕ) (a x : List Float) (s norm alpha : Float) (p : x ≡ columnOf n c a) (q : s ≡ sumSquares x) (r : norm ≡ sqrtOf s) where
+  pub still : eq norm plusZero ≡ true → a ≡ reflected n c a
+  unfolding reflected
+  still e = rw (← p, ← q, ← r, e)
+
+  module _ (e : eq norm plusZero ≡ false) (t : alpha ≡ cond (lt plusZero (x ‼ 0)) (neg norm) norm) (vv : Float) (u : vv ≡ sumSquares (set x 0 (x ‼ 0 ⊖ alpha))) where
+    pub flat : eq vv plusZero ≡ true → a ≡ reflected n c a
+    unfolding reflected
+    flat f = rw (← p, ← q, ← r, e, ← t, ← u, f)
+
+    pub turned : eq vv plusZero ≡ false → square (reflectedEntry n c a alpha (set x 0 (x ‼ 0 ⊖ alpha)) (correctionOf (set x 0 (x ‼ 0 ⊖ alpha)) (imageOf n c a (set x 0 (x ‼ 0 ⊖ alpha))) vv)) n ≡ reflected n c a
+    unfolding reflected
+    turned f = rw (← p, ← q, ← r, e, ← t, ← u, f)
 
 -- ---- a reflection keeps a matrix symmetric
 module _ (n c : ℕ) (a : List Float) (alpha : Float) (v q : List Float) where
