@@ -7,7 +7,7 @@ use native.Mathlib.Omega.{arith}
 use native.Mathlib.Numerals.{add-one}
 use native.Mathlib.Nat.{le-antisymm}
 use mathlib.Core.Path.{_≡_, refl, ap, sym, _∙_}
-use lib.ListN.{length, getD, set, length-set}
+use lib.ListN.{length, length-take, length-drop, length-append}
 use borrow.Author.Needs.{needs}
 use Rattle.tridiagonal.proofs.tridiagonalize.Statement.{statement}
 use Rattle.tridiagonal.proofs.tridiagonalize.Tie as tie
@@ -37,16 +37,16 @@ array-borrow-prefix-v : tie.Need-array-borrow-prefix-v Inv-loop μ-loop
 array-borrow-prefix-v c = search needs
 
 slice-aggregate-reflect : tie.Need-slice-aggregate-reflect Inv-loop μ-loop
-slice-aggregate-reflect c = search needs
+slice-aggregate-reflect c = simp length-take (omega arith)
 
 array-borrow-prefix-p : tie.Need-array-borrow-prefix-p Inv-loop μ-loop
 array-borrow-prefix-p c = search needs
 
 slice-aggregate-reflect-2 : tie.Need-slice-aggregate-reflect-2 Inv-loop μ-loop
-slice-aggregate-reflect-2 c = search needs
+slice-aggregate-reflect-2 c = simp length-take (omega arith)
 
 reflect-requires : tie.Need-reflect-requires Inv-loop μ-loop
-reflect-requires c κs = (search needs, search needs, search needs, search needs, rw (c .before .before .before .before .loop .inv .3) (reflections-symmetric _ _ _ (c .before .before .before .before .before .before .before .pre .2)))
+reflect-requires c κs = (search needs, search needs, simp length-take (omega arith), simp length-take (omega arith), rw (c .before .before .before .before .loop .inv .3) (reflections-symmetric _ _ _ (c .before .before .before .before .before .before .before .pre .2)))
 
 add-c : tie.Need-add-c Inv-loop μ-loop
 add-c c = search needs
@@ -55,7 +55,7 @@ loop-less : tie.Need-loop-less Inv-loop μ-loop
 loop-less c = search needs
 
 loop-again : tie.Need-loop-again Inv-loop μ-loop
-loop-again c = (search needs, search needs, search needs, c .before .before .before .before .reflect .ensures ∙ rw (c .before .before .before .before .before .before .before .before .before .loop .inv .3) (sym (turns-more _ _ _)), search needs, search needs)
+loop-again c = (search needs, search needs, search needs, c .before .before .before .before .reflect .ensures ∙ rw (c .before .before .before .before .before .before .before .before .before .loop .inv .3) (sym (turns-more _ _ _)), simp (length-append, length-drop) (omega (arith, simp length-take at (c .before .v2 .given))), simp (length-append, length-drop) (omega (arith, simp length-take at (c .p2 .given))))
 
 same-length : tie.Need-same-length Inv-loop μ-loop
 same-length c = search needs
