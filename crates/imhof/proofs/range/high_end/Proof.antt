@@ -1,3 +1,4 @@
+use Rattle.imhof.specs.Range.{highEnd}
 use borrow.Author.Needs.{needs}
 use Rattle.imhof.proofs.range.high_end.Statement.{statement}
 use Rattle.imhof.proofs.range.high_end.Tie as tie
@@ -20,7 +21,8 @@ half-log-prod-requires : tie.Need-half-log-prod-requires
 half-log-prod-requires c κs = search needs
 
 returns : tie.Need-returns
-returns c = search needs
+unfolding highEnd
+returns c = rw (c .before .before .ln .ensures, c .before .ln2 .ensures, c .half-log-prod .ensures, c .before .before .before .two-by-count .ensures)
 
 pub high-end-spec : {M : Type 1} → statement M
 high-end-spec =

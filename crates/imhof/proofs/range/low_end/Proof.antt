@@ -1,3 +1,4 @@
+use Rattle.imhof.specs.Range.{lowEnd}
 use borrow.Author.Needs.{needs}
 use Rattle.imhof.proofs.range.low_end.Statement.{statement}
 use Rattle.imhof.proofs.range.low_end.Tie as tie
@@ -13,7 +14,8 @@ ln-requires : tie.Need-ln-requires
 ln-requires c κs = search needs
 
 returns : tie.Need-returns
-returns c = search needs
+unfolding lowEnd
+returns c = rw (c .ln .ensures, c .before .half-abs-sum .ensures)
 
 pub low-end-spec : {M : Type 1} → statement M
 low-end-spec = tie.close (tie.spec half-abs-sum-requires ln-requires returns)

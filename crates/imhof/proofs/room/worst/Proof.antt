@@ -1,3 +1,9 @@
+use Rattle.imhof.proofs.RoomLaws.{run-in, length-in}
+use Rattle.imhof.specs.Room.{storedAt, partsIn}
+use Rattle.imhof.specs.Parts.{lastGreatest}
+use lib.ListN.{length-map, length-take, length-drop}
+use native.Mathlib.Omega.{arith}
+use mathlib.Core.Path.{refl, ap, _∙_}
 use borrow.Author.Needs.{needs}
 use Rattle.imhof.proofs.room.worst.Statement.{statement}
 use Rattle.imhof.proofs.room.worst.Tie as tie
@@ -18,10 +24,11 @@ part-last-greatest-end : tie.Need-part-last-greatest-end
 part-last-greatest-end c = search needs
 
 last-greatest-requires : tie.Need-last-greatest-requires
-last-greatest-requires c κs = search needs
+last-greatest-requires c κs = simp (length-take, length-drop) (omega arith)
 
 returns : tie.Need-returns
-returns c = search needs
+unfolding storedAt
+returns c = (rw (run-in (λ p. p .error) 6003 (c .before .before .before .args .n) (c .before .before .before .args .room .now) (λ i. refl) refl (omega arith), length-map (partsIn (c .before .before .before .args .n) (c .before .before .before .args .room .now)) (λ p. p .error), length-in (c .before .before .before .args .n) (c .before .before .before .args .room .now)) at (c .last-greatest .ensures .0), c .last-greatest .ensures .1 ∙ ap lastGreatest (run-in (λ p. p .error) 6003 (c .before .before .before .args .n) (c .before .before .before .args .room .now) (λ i. refl) refl (omega arith)))
 
 pub worst-spec : {M : Type 1} → statement M
 worst-spec =
