@@ -1,2 +1,4 @@
 pub mod WeightLaws
 pub mod RoomLaws
+pub mod StageLaws
+pub mod HeldLaws
