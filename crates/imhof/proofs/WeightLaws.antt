@@ -22,6 +22,16 @@ module _ (test : Float → Bool) (ws : List Float) where
   unfolding every
   every-none t h k = let e : t ≡ length ws = omega arith in rw (e, drop-length ws)
 
+-- there are no more weights than eigenvalues
+pub length-weights : (es : List Float) (d : Float) → length (weightsOf es d) ≤ length es
+unfolding weightsOf
+length-weights [] d = omega arith
+length-weights (l ∷ ls) d = let h = length-weights ls d in go (eq (l ⊖ d) plusZero) h
+  where
+    go : (b : Bool) → length (weightsOf ls d) ≤ length ls → length (cond b (weightsOf ls d) ((l ⊖ d) ∷ weightsOf ls d)) ≤ suc (length ls)
+    go true h = omega arith
+    go false h = omega arith
+
 -- With m weights gathered from the first t eigenvalues at the front of ws, what they are with those still to come, and what stands behind them.
 abbrev pub Gathered : List Float → Float → List Float → List Float → ℕ → ℕ → Type 0
 Gathered es d ws₀ ws m t = (m ≤ t) × (length ws ≡ length ws₀) × (take m ws ++ weightsOf (drop t es) d ≡ weightsOf es d) × (drop m ws ≡ drop m ws₀)
