@@ -26,10 +26,10 @@ module _ (f : Float → Float) (ps : List Part) (t : Tally) where
   next-settled h = rw h
 
   module _ (more : le (sumRun (errorsOf ps)) tolerance ≡ false) where
-    pub next-bisected : finitePart (leftHalf f (partAt ps (worstOf ps))) ≡ true → finitePart (rightHalf f (partAt ps (worstOf ps))) ≡ true
+    pub next-bisected : finitePart (leftHalf f (partAt ps (worstOf ps))) && finitePart (rightHalf f (partAt ps (worstOf ps))) ≡ true
         → nextStage f (stage ps t Open) ≡ stage (bisectedAt f (worstOf ps) ps) (oneRule (oneRule (oneBisection t))) Open
     unfolding nextStage
-    next-bisected h k = rw (more, h, k)
+    next-bisected h = rw (more, h)
 
     pub next-refused : finitePart (leftHalf f (partAt ps (worstOf ps))) && finitePart (rightHalf f (partAt ps (worstOf ps))) ≡ false → nextStage f (stage ps t Open) ≡ stage ps t Refused
     unfolding nextStage

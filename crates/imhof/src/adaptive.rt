@@ -12,8 +12,11 @@ ghost use Rattle.imhof.specs.declared.Standing.the-variants.{Open};
 
 use super::{Integral, Part, Quadrature, Standing};
 use super::room;
-use super::rule::gk15;
+use super::rule::{Halves, bisect, gk15};
 use floats::tally::Tally;
+
+// Half of 1e-11: the cuts of the range and the quadrature share it.
+const TOLERANCE: f64 = 5e-12;
 
 // Where a turn left things: how the parts stand, and the work tally.
 pub struct Turn {
@@ -30,6 +33,15 @@ fn is_finite_part(p: Part) -> bool
     false
 }
 
+fn are_finite(h: Halves) -> bool
+    ensures { λ r. ⌜ r ≡ finitePart (h .left) && finitePart (h .right) ⌝ }
+{
+    if is_finite_part(h.left) {
+        return is_finite_part(h.right);
+    }
+    false
+}
+
 // One turn over n parts: if their summed error is at most 5e-12 they are settled, else the one of greatest error is bisected.
 // Where a half's value or error is not finite the parts stay as they were.
 pub fn advance(weights: &[f64], parts: &mut [f64], n: usize, tally: Tally) -> Turn
@@ -39,27 +51,24 @@ pub fn advance(weights: &[f64], parts: &mut [f64], n: usize, tally: Tally) -> Tu
     ensures { λ r. ⌜ r .tally ≡ nextStage (integrandOf (now (weights .entry))) (stage (partsIn n (now (parts .entry))) tally Open) .tally ⌝ }
     ensures { λ _. ⌜ now (parts .exit) ≡ laidOut (nextStage (integrandOf (now (weights .entry))) (stage (partsIn n (now (parts .entry))) tally Open) .parts) (now (parts .entry)) ⌝ }
 {
-    if room::error_sum(parts, n) <= 5e-12 {
+    if room::error_sum(parts, n) <= TOLERANCE {
         return Turn {
             standing: Standing::Settled,
             tally,
         };
     }
     let w = room::worst(parts, n);
-    let p = room::part_at(parts, w);
-    let mid = 0.5 * (p.lo + p.hi);
-    let left = gk15(weights, p.lo, mid);
-    let right = gk15(weights, mid, p.hi);
-    if is_finite_part(left) && is_finite_part(right) {
-        room::replace(parts, n, w, left, right);
+    let h = bisect(weights, room::part_at(parts, w));
+    if !are_finite(h) {
         return Turn {
-            standing: Standing::Open,
-            tally: tally.bisected().evaluated(15).evaluated(15),
+            standing: Standing::Refused,
+            tally,
         };
     }
+    room::replace(parts, n, w, h.left, h.right);
     Turn {
-        standing: Standing::Refused,
-        tally,
+        standing: Standing::Open,
+        tally: tally.bisected().evaluated(15).evaluated(15),
     }
 }
 

@@ -1,10 +1,16 @@
 // The Gauss-Kronrod rule of 7 and 15 points.
 ghost use mathlib.Core.Path.{_≡_};
 ghost use Rattle.imhof.specs.Integrand.{integrandOf};
+ghost use Rattle.imhof.specs.Parts.{leftHalf, rightHalf};
 ghost use Rattle.imhof.specs.Rule.{gk15Of};
 
 use super::Part;
 use super::integrand::integrand;
+
+pub struct Halves {
+    pub left: Part,
+    pub right: Part,
+}
 
 // Nodes on [0, 1], from the outermost to 0.
 const GK_X: [f64; 8] = [
@@ -57,5 +63,16 @@ pub fn gk15(weights: &[f64], a: f64, b: f64) -> Part
         hi: b,
         value: k * h,
         error: floats::signs::abs((k - g) * h),
+    }
+}
+
+// The two halves of a part. 30 evaluations.
+pub fn bisect(weights: &[f64], p: Part) -> Halves
+    ensures { λ r. ⌜ (r .left ≡ leftHalf (integrandOf (now (weights .entry))) p) × (r .right ≡ rightHalf (integrandOf (now (weights .entry))) p) ⌝ }
+{
+    let mid = 0.5 * (p.lo + p.hi);
+    Halves {
+        left: gk15(weights, p.lo, mid),
+        right: gk15(weights, mid, p.hi),
     }
 }
