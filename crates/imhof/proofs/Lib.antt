@@ -2,3 +2,5 @@ pub mod WeightLaws
 pub mod RoomLaws
 pub mod StageLaws
 pub mod HeldLaws
+pub mod Reorder
+pub mod Tiling
