@@ -81,30 +81,33 @@ module _ (f : Float → Float) (ps : List Part) (t : Tally) where
   abbrev after : Stage
   after = nextStage f (stage ps t Open)
 
-  either : (fine : Bool) (a b : Stage) → (cond fine a b ≡ a) ⊎ (cond fine a b ≡ b)
-  either true a b = inl refl
+  abbrev pub finiteHalves : Bool
+  finiteHalves = finitePart (leftHalf f (partAt ps (worstOf ps))) && finitePart (rightHalf f (partAt ps (worstOf ps)))
+
+  either : (fine : Bool) (a b : Stage) → ((fine ≡ true) × (cond fine a b ≡ a)) ⊎ (cond fine a b ≡ b)
+  either true a b = inl (refl, refl)
   either false a b = inr refl
 
   -- the three ways a turn ends
-  pub turned : (after ≡ stage ps t Settled) ⊎ ((after ≡ split) ⊎ (after ≡ stage ps t Refused))
+  pub turned : (after ≡ stage ps t Settled) ⊎ (((finiteHalves ≡ true) × (after ≡ split)) ⊎ (after ≡ stage ps t Refused))
   unfolding nextStage
   turned = go (le (sumRun (errorsOf ps)) tolerance)
     where
-      go : (small : Bool) → (lookedAt small f ps t ≡ stage ps t Settled) ⊎ ((lookedAt small f ps t ≡ split) ⊎ (lookedAt small f ps t ≡ stage ps t Refused))
+      go : (small : Bool) → (lookedAt small f ps t ≡ stage ps t Settled) ⊎ (((finiteHalves ≡ true) × (lookedAt small f ps t ≡ split)) ⊎ (lookedAt small f ps t ≡ stage ps t Refused))
       go true = inl refl
-      go false = inr (either (finitePart (leftHalf f (partAt ps (worstOf ps))) && finitePart (rightHalf f (partAt ps (worstOf ps)))) split (stage ps t Refused))
+      go false = inr (either finiteHalves split (stage ps t Refused))
 
   pub was-settled : after .standing ≡ Settled → after ≡ stage ps t Settled
   was-settled h =
-      ⊎-elim (λ e. e) (λ e. ⊎-elim (λ e. absurd (never-settled (sym h ∙ ap (λ s. s .standing) e))) (λ e. absurd (apart (sym h ∙ ap (λ s. s .standing) e))) e) turned
+      ⊎-elim (λ e. e) (λ e. ⊎-elim (λ e. absurd (never-settled (sym h ∙ ap (λ s. s .standing) (e .1)))) (λ e. absurd (apart (sym h ∙ ap (λ s. s .standing) e))) e) turned
 
   pub was-bisected : after .standing ≡ Open → after ≡ split
   was-bisected h =
-      ⊎-elim (λ e. absurd (never-settled (sym (ap (λ s. s .standing) e) ∙ h))) (λ e. ⊎-elim (λ e. e) (λ e. absurd (never-refused (sym (ap (λ s. s .standing) e) ∙ h))) e) turned
+      ⊎-elim (λ e. absurd (never-settled (sym (ap (λ s. s .standing) e) ∙ h))) (λ e. ⊎-elim (λ e. e .1) (λ e. absurd (never-refused (sym (ap (λ s. s .standing) e) ∙ h))) e) turned
 
   pub was-refused : after .standing ≡ Refused → after ≡ stage ps t Refused
   was-refused h =
-      ⊎-elim (λ e. absurd (apart (sym (ap (λ s. s .standing) e) ∙ h))) (λ e. ⊎-elim (λ e. absurd (never-refused (sym h ∙ ap (λ s. s .standing) e))) (λ e. e) e) turned
+      ⊎-elim (λ e. absurd (apart (sym (ap (λ s. s .standing) e) ∙ h))) (λ e. ⊎-elim (λ e. absurd (never-refused (sym h ∙ ap (λ s. s .standing) (e .1)))) (λ e. e) e) turned
 
   -- a bisection makes one part more
   pub length-split : 0 < length ps → length (split .parts) ≡ length ps + 1

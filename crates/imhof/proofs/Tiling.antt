@@ -22,7 +22,8 @@ use Rattle.imhof.specs.declared.Standing.the-variants.{Open, Settled, Re
 use Rattle.imhof.specs.Rule.{gk15Of, middleOf}
 use Rattle.imhof.specs.Parts.{partAt, errorsOf, lastGreatest, worstOf, without, leftHalf, rightHalf, bisectedAt, finitePart, Stage, stage, oneRule, nextStage, stageAfter}
 use Rattle.imhof.proofs.Reorder.{Insert, here, there, Same, none, more, insert-last, insert-middle, take-out, put-in, reordered}
-use Rattle.imhof.proofs.StageLaws.{split, first-open, stage-next, turned, stays-settled, stays-refused, length-split}
+use Rattle.imhof.proofs.StageLaws.{split, finiteHalves, first-open, stage-next, length-split}
+use Rattle.imhof.proofs.EveryStage.{worst-inside, next-cases, every-stage}
 
 -- links from a to b, each beginning where the one before ends
 abbrev pub Chain : Float → Float → List Part → Type 0
@@ -93,42 +94,6 @@ module _ (f : Float → Float) (a b : Float) where
 
 -- ---- every stage
 
--- the greatest of some numbers is one of them
-greatest-inside : (es : List Float) → 0 < length es → lastGreatest es < length es
-unfolding lastGreatest turns
-greatest-inside es h = let b = go (length es) in omega arith
-  where
-    pick : (t : Bool) (v i : ℕ) → v ≤ i - 1 → cond t v i ≤ suc i - 1
-    pick true v i l = omega arith
-    pick false v i l = omega arith
-
-    go : (n : ℕ) → turns n (λ i w. cond (before (es ‼ i) (es ‼ w)) w i) 0 ≤ n - 1
-    go zero = omega arith
-    go (suc n) = pick (before (es ‼ n) (es ‼ turns n (λ i w. cond (before (es ‼ i) (es ‼ w)) w i) 0)) (turns n (λ i w. cond (before (es ‼ i) (es ‼ w)) w i) 0) n (go n)
-
-worst-inside : (ps : List Part) → 0 < length ps → worstOf ps < length ps
-worst-inside ps h = subst (λ n. worstOf ps < n) (length-map ps (λ p. p .error)) (greatest-inside (errorsOf ps) (subst (λ n. 0 < n) (sym (length-map ps (λ p. p .error))) h))
-
--- a turn leaves the parts, or bisects one
-next-cases : (f : Float → Float) (Q : List Part → Tally → Type 0) (s : Stage) → Q (s .parts) (s .tally) → Q (split f (s .parts) (s .tally) .parts) (split f (s .parts) (s .tally) .tally)
-    → Q (nextStage f s .parts) (nextStage f s .tally)
-next-cases f Q s = go (s .parts) (s .tally) (s .standing)
-  where
-    go : (ps : List Part) (t : Tally) (now : Standing) → Q ps t → Q (split f ps t .parts) (split f ps t .tally) → Q (nextStage f (stage ps t now) .parts) (nextStage f (stage ps t now) .tally)
-    go ps t Open h k =
-        ⊎-elim (λ e. subst (λ z. Q (z .parts) (z .tally)) (sym e) h)
-        (λ e. ⊎-elim (λ e. subst (λ z. Q (z .parts) (z .tally)) (sym e) k) (λ e. subst (λ z. Q (z .parts) (z .tally)) (sym e) h) e)
-        (turned f ps t)
-    go ps t Settled h k = subst (λ z. Q (z .parts) (z .tally)) (sym (stays-settled f ps t)) h
-    go ps t Refused h k = subst (λ z. Q (z .parts) (z .tally)) (sym (stays-refused f ps t)) h
-
-module _ (f : Float → Float) (P : List Part → Tally → Type 0) (keeps : (ps : List Part) (t : Tally) → P ps t → P (split f ps t .parts) (split f ps t .tally)) where
-  -- what holds of the one first part and is kept by every bisection holds of every stage
-  every-stage : (a b : Float) → finitePart (gk15Of f a b) ≡ true → P (gk15Of f a b ∷ []) (oneRule noWork) → (k : ℕ) → P (stageAfter k f a b .parts) (stageAfter k f a b .tally)
-  every-stage a b fine h zero = subst (λ z. P (z .parts) (z .tally)) (sym (first-open f a b fine)) h
-  every-stage a b fine h (suc k) =
-      subst (λ z. P (z .parts) (z .tally)) (sym (stage-next f a b k) ∙ ap (λ n. stageAfter n f a b) (add-one k)) (let now = every-stage a b fine h k in next-cases f P (stageAfter k f a b) now (keeps _ _ now))
-
 module _ (f : Float → Float) (a b : Float) (fine : finitePart (gk15Of f a b) ≡ true) where
   -- the parts of every stage, in some order, are a chain from a to b
   pub tiled : (k : ℕ) → (cs : List Part) × Perm (stageAfter k f a b .parts) cs × Chain a b cs
@@ -136,8 +101,8 @@ module _ (f : Float → Float) (a b : Float) (fine : finitePart (gk15Of f a b) �
       let r = every-stage f (λ ps t. (0 < length ps) × Tiles a b ps) keeps a b fine (omega arith, first) k in
       (r .1 .0, reordered (r .1 .1), r .1 .2)
     where
-      keeps : (ps : List Part) (t : Tally) → (0 < length ps) × Tiles a b ps → (0 < length (split f ps t .parts)) × Tiles a b (split f ps t .parts)
-      keeps ps t (some, tiles) = (omega (arith, length-split f ps t some), bisection-tiles f a b ps (worstOf ps) (worst-inside ps some) tiles)
+      keeps : (ps : List Part) (t : Tally) → finiteHalves f ps t ≡ true → (0 < length ps) × Tiles a b ps → (0 < length (split f ps t .parts)) × Tiles a b (split f ps t .parts)
+      keeps ps t e (some, tiles) = (omega (arith, length-split f ps t some), bisection-tiles f a b ps (worstOf ps) (worst-inside ps some) tiles)
 
       first : Tiles a b (gk15Of f a b ∷ [])
       first = unfold gk15Of in (gk15Of f a b ∷ [], more (here refl) none, (refl, refl))
@@ -148,10 +113,10 @@ module _ (f : Float → Float) (a b : Float) (fine : finitePart (gk15Of f a b) �
   -- one part more than bisections; 15 evaluations, and 30 more for each bisection; no more bisections than turns
   pub counted : (k : ℕ)
       → (length (stageAfter k f a b .parts) ≡ stageAfter k f a b .tally .bisections + 1) × (stageAfter k f a b .tally .evaluations ≡ 15 + 30 * stageAfter k f a b .tally .bisections) × (stageAfter k f a b .tally .bisections ≤ k)
-  counted k = let r = every-stage f Counts (λ ps t h. (length-split f ps t (omega arith) ∙ ap (λ n. n + 1) (h .0), omega arith)) a b fine (refl, refl) k in (r .0, r .1, turns-bound k)
+  counted k = let r = every-stage f Counts (λ ps t e h. (length-split f ps t (omega arith) ∙ ap (λ n. n + 1) (h .0), omega arith)) a b fine (refl, refl) k in (r .0, r .1, turns-bound k)
     where
       turns-bound : (k : ℕ) → stageAfter k f a b .tally .bisections ≤ k
       turns-bound zero = subst (λ z. z .tally .bisections ≤ 0) (sym (first-open f a b fine)) (omega arith)
       turns-bound (suc k) =
           let now = turns-bound k in
-          subst (λ z. z .tally .bisections ≤ suc k) (sym (stage-next f a b k) ∙ ap (λ n. stageAfter n f a b) (add-one k)) (next-cases f (λ ps t. t .bisections ≤ suc k) (stageAfter k f a b) (omega arith) (omega arith))
+          subst (λ z. z .tally .bisections ≤ suc k) (sym (stage-next f a b k) ∙ ap (λ n. stageAfter n f a b) (add-one k)) (next-cases f (λ ps t. t .bisections ≤ suc k) (stageAfter k f a b) (omega arith) (λ e. omega arith))
