@@ -5,3 +5,5 @@ pub mod HeldLaws
 pub mod Reorder
 pub mod EveryStage
 pub mod Tiling
+pub mod NoNan
+pub mod Probability
