@@ -7,3 +7,4 @@ pub mod EveryStage
 pub mod Tiling
 pub mod NoNan
 pub mod Probability
+pub mod Midpoint
