@@ -92,3 +92,7 @@ module _ (P : Part → Type 0) where
       all-append (without (worstOf ps) ps) (leftHalf f (partAt ps (worstOf ps)) ∷ rightHalf f (partAt ps (worstOf ps)) ∷ [])
       (all-set (take (length ps - 1) ps) (worstOf ps) (partAt ps (length ps - 1)) (all-at ps (length ps - 1) (omega arith) h) (all-take (length ps - 1) ps h))
       (l, (r, tt))
+
+pub all-map : (P Q : Part → Type 0) → ((p : Part) → P p → Q p) → (ps : List Part) → All P ps → All Q ps
+all-map P Q g [] h = tt
+all-map P Q g (p ∷ ps) h = (g p (h .0), all-map P Q g ps (h .1))

@@ -8,3 +8,4 @@ pub mod Tiling
 pub mod NoNan
 pub mod Probability
 pub mod Midpoint
+pub mod Ordered

@@ -57,6 +57,10 @@ test-of true a true b h = ⊎-elim (λ e. rw (eq-eqb a b (sym e)) (or-true (ltb 
 test-of true a false b h = ⊎-elim (λ z. let p : a ≡ 0 = omega arith in let q : b ≡ 0 = omega arith in rw (p, q)) (λ l. rw (lt-ltb 0 (a + b) l)) (eq-zero-or-pos (a + b))
 test-of false a true b h = let p : a ≡ 0 = omega arith in let q : b ≡ 0 = omega arith in rw (p, q)
 
+pub le-self : (s : Bool) (m : ℕ) (e : ℤ) → le (fin s m e) (fin s m e) ≡ true
+unfolding le
+le-self s m e = test-of s (m * up e * down e) s (m * up e * down e) (omega arith)
+
 -- the order of a / c and b / c is that of x / d and y / d where they are equal
 module _ (x y a b c d : ℕ) (C : 0 < c) (D : 0 < d) (p : x * c ≡ a * d) (q : y * c ≡ b * d) where
   le-scaled : x ≤ y → a ≤ b
@@ -281,14 +285,18 @@ module _ (f : Format) where
   counted : (m : ℕ) (e : ℤ) (j : ℕ) → up e * 2 ^ low f ≡ 2 ^ j * down e → m * up e * 2 ^ low f ≡ m * 2 ^ j * down e
   counted m e j h = mul-assoc m (up e) (2 ^ low f) ∙ ap (λ z. m * z) h ∙ sym (mul-assoc m (2 ^ j) (down e))
 
-  under-power : (m : ℕ) (e : ℤ) (j p : ℕ) → m * up e * 2 ^ low f ≡ m * 2 ^ j * down e → m * up e < 2 ^ p * down e → m * 2 ^ j < 2 ^ (low f + p)
-  under-power m e j p c h =
+  -- below 2 ^ emax in size
+  abbrev pub Small : ℕ → ℤ → Type 0
+  Small m e = m * up e < 2 ^ emax f * down e
+
+  small-count : (m : ℕ) (e : ℤ) (n : ℕ) → m * up e * 2 ^ low f ≡ n * down e → Small m e → n < 2 ^ (low f + emax f)
+  small-count m e n c h =
       lt-of-mul-lt-mul-right (down e)
-      (subst (λ z. z < 2 ^ (low f + p) * down e) c
-      (subst (λ z. m * up e * 2 ^ low f < z) (mul-right-comm (2 ^ p) (down e) (2 ^ low f) ∙ ap (λ z. z * down e) (mul-comm (2 ^ p) (2 ^ low f) ∙ sym (pow-add 2 (low f) p))) (mul-lt-mul-of-pos-right h (pow-pos (low f)))))
+      (subst (λ z. z < 2 ^ (low f + emax f) * down e) c
+      (subst (λ z. m * up e * 2 ^ low f < z) (mul-right-comm (2 ^ emax f) (down e) (2 ^ low f) ∙ ap (λ z. z * down e) (mul-comm (2 ^ emax f) (2 ^ low f) ∙ sym (pow-add 2 (low f) (emax f)))) (mul-lt-mul-of-pos-right h (pow-pos (low f)))))
 
   -- the number, and twice it where that is below the overflow
-  held-number : (s : Bool) (m : ℕ) (e : ℤ) → T (fits f (fin s m e)) → m * up e < 2 ^ emax f * down e → (n : ℕ) × Counts (fin s m e) s n × Held n × Held (2 * n)
+  held-number : (s : Bool) (m : ℕ) (e : ℤ) → T (fits f (fin s m e)) → Small m e → (n : ℕ) × Counts (fin s m e) s n × Held n × Held (2 * n)
   unfolding fits
   held-number s zero e h l = (0, (refl, nothing e), nothing-held, nothing-held)
     where
@@ -303,7 +311,7 @@ module _ (f : Format) where
       let low-end : down e ≤ 2 ^ low f = leb→le (down e) (2 ^ low f) (and-r (A && B) C (and-l (A && B && C) D h)) in
       let j : ℕ = shift e low-end .0 in
       let c : suc m * up e * 2 ^ low f ≡ suc m * 2 ^ j * down e = counted (suc m) e j (shift e low-end .1) in
-      let half : suc m * 2 ^ j < 2 ^ (low f + emax f) = under-power (suc m) e j (emax f) c l in
+      let half : suc m * 2 ^ j < 2 ^ (low f + emax f) = small-count (suc m) e (suc m * 2 ^ j) c l in
       let top : overflow f ≡ 2 * 2 ^ (low f + emax f) = ap (λ z. 2 ^ z) (add-suc (low f) (emax f)) ∙ pow-succ' 2 (low f + emax f) in
       let twice : 2 * (suc m * 2 ^ j) ≡ suc m * 2 ^ suc j = mul-left-comm 2 (suc m) (2 ^ j) ∙ ap (λ z. suc m * z) (sym (pow-succ' 2 j)) in
       (suc m * 2 ^ j, (refl, c), (suc m, j, small, refl, subst (λ z. suc m * 2 ^ j < z) (sym top) (double (suc m * 2 ^ j) (2 ^ (low f + emax f)) half)), (suc m, suc j, small, twice, subst (λ z. 2 * (suc m * 2 ^ j) < z) (sym top) (twofold (suc m * 2 ^ j) (2 ^ (low f + emax f)) half)))
@@ -315,7 +323,7 @@ module _ (f : Format) where
       twofold x y h = omega arith
 
   -- x ≤ y: then x ≤ (x + y) / 2 ≤ y, the sum and the half rounded
-  pub middle-between : (s : Bool) (m : ℕ) (e : ℤ) (t : Bool) (n : ℕ) (d : ℤ) → T (fits f (fin s m e)) → T (fits f (fin t n d)) → m * up e < 2 ^ emax f * down e → n * up d < 2 ^ emax f * down d → le (fin s m e) (fin t n d) ≡ true
+  pub middle-between : (s : Bool) (m : ℕ) (e : ℤ) (t : Bool) (n : ℕ) (d : ℤ) → T (fits f (fin s m e)) → T (fits f (fin t n d)) → Small m e → Small n d → le (fin s m e) (fin t n d) ≡ true
       → (le (fin s m e) (mul f (fin false 1 (negsuc 0)) (add f (fin s m e) (fin t n d))) ≡ true) × (le (mul f (fin false 1 (negsuc 0)) (add f (fin s m e) (fin t n d))) (fin t n d) ≡ true)
   unfolding add
   middle-between s m e t n d p q h k l =
@@ -326,3 +334,52 @@ module _ (f : Format) where
       sum-between (m * up e * down d) (n * up d * down e) (down e * down d) a b (mul-pos (down-pos e) (down-pos d)) (cross m e d a (ca .1)) (cross n d e b (cb .1) ∙ ap (λ z. b * z) (mul-comm (down d) (down e))) A2 B2 s t o in
       let (r, g, c, low, high) = half-between s t a b (add f (fin s m e) (fin t n d)) A B y in
       (counts-order (fin s m e) _ s r a g ca c low, counts-order _ (fin t n d) r t g b c cb high)
+
+  -- ---- what lies between two numbers that are small enough
+
+  -- how any finite number of the format is counted
+  count-of : (s : Bool) (m : ℕ) (e : ℤ) → T (fits f (fin s m e)) → (n : ℕ) × Counts (fin s m e) s n
+  unfolding fits
+  count-of s zero e h = (0, (refl, ap (λ z. z * 2 ^ low f) (zero-mul (up e)) ∙ zero-mul (2 ^ low f) ∙ sym (zero-mul (down e))))
+  count-of s (suc m) e h =
+      let A : Bool = eqb (suc m % 2) 1 in
+      let B : Bool = ltb (suc m) (2 ^ prec f) in
+      let C : Bool = leb (down e) (2 ^ low f) in
+      let low-end : down e ≤ 2 ^ low f = leb→le (down e) (2 ^ low f) (and-r (A && B) C (and-l (A && B && C) (ltb (suc m * up e) (2 ^ suc (emax f) * down e)) h)) in
+      (suc m * 2 ^ shift e low-end .0, (refl, counted (suc m) e (shift e low-end .0) (shift e low-end .1)))
+
+  count-small : (m : ℕ) (e : ℤ) (n : ℕ) → m * up e * 2 ^ low f ≡ n * down e → n < 2 ^ (low f + emax f) → Small m e
+  count-small m e n c h =
+      lt-of-mul-lt-mul-right (2 ^ low f)
+      (subst (λ z. z < 2 ^ emax f * down e * 2 ^ low f) (sym c)
+      (subst (λ z. n * down e < z) (sym (mul-right-comm (2 ^ emax f) (down e) (2 ^ low f) ∙ ap (λ z. z * down e) (mul-comm (2 ^ emax f) (2 ^ low f) ∙ sym (pow-add 2 (low f) (emax f))))) (mul-lt-mul-of-pos-right h (down-pos e))))
+
+  below-trans : (s r t : Bool) (a g b : ℕ) → Below s a r g → Below r g t b → Below s a t b
+  below-trans s r t a g b h k = omega arith
+
+  between-small : (s r t : Bool) (a g b M : ℕ) → Below s a r g → Below r g t b → a < M → b < M → g < M
+  between-small s true t a g b M h k p q = by s h
+    where
+      by : (s : Bool) → Below s a true g → g < M
+      by true h = omega arith
+      by false h = omega arith
+  between-small s false t a g b M h k p q = by t k
+    where
+      by : (t : Bool) → Below false g t b → g < M
+      by true k = omega arith
+      by false k = omega arith
+
+  module _ (s : Bool) (m : ℕ) (e : ℤ) (r : Bool) (k : ℕ) (c : ℤ) (t : Bool) (n : ℕ) (d : ℤ) (p : T (fits f (fin s m e))) (v : T (fits f (fin r k c))) (q : T (fits f (fin t n d))) (h : le (fin s m e) (fin r k c) ≡ true) (l : le (fin r k c) (fin t n d) ≡ true) where
+    pub le-through : le (fin s m e) (fin t n d) ≡ true
+    le-through =
+        let (a, ca) = count-of s m e p in
+        let (g, cg) = count-of r k c v in
+        let (b, cb) = count-of t n d q in
+        counts-order (fin s m e) (fin t n d) s t a b ca cb (below-trans s r t a g b (order-counts (fin s m e) (fin r k c) s r a g ca cg h) (order-counts (fin r k c) (fin t n d) r t g b cg cb l))
+
+    pub small-through : Small m e → Small n d → Small k c
+    small-through x y =
+        let (a, ca) = count-of s m e p in
+        let (g, cg) = count-of r k c v in
+        let (b, cb) = count-of t n d q in
+        count-small k c g (cg .1) (between-small s r t a g b (2 ^ (low f + emax f)) (order-counts (fin s m e) (fin r k c) s r a g ca cg h) (order-counts (fin r k c) (fin t n d) r t g b cg cb l) (small-count m e a (ca .1) x) (small-count n d b (cb .1) y))
