@@ -5,9 +5,9 @@ use Prim.Native.Nat.{ℕ, zero, suc, _+_, _-_, _≤_, _<_}
 use native.Mathlib.Nat.{le-trans}
 use native.Mathlib.Numerals.{add-one}
 use native.Mathlib.Omega.{arith}
-use mathlib.Core.List.{List, [], _∷_, _++_}
+use mathlib.Core.List.{List, [], _∷_, _++_, append-nil}
 use lib.ListN.{length, take, drop, getD, set, length-append, length-take, length-drop}
-use lib.Seq.{slice, slice-cons, take-suc, take-suc-set, drop-set-lt, append-snoc, set-split, drop-cons, set-at, take-at, drop-at, getD-at}
+use lib.Seq.{slice, slice-cons, slice-empty, take-suc, take-suc-set, drop-set-lt, take-set-lt, append-snoc, set-split, drop-cons, set-at, take-at, drop-at, getD-at}
 use lib.Ieee.{Float, nan, lt}
 use Rattle.floats.specs.Words.{float, _‼_}
 use Rattle.floats.specs.Signs.{before}
@@ -16,32 +16,41 @@ use Rattle.eigen.specs.Kept.{insert, falling, large}
 -- ---- an insertion, one place on
 
 module _ (d : List Float) (p i : ℕ) (x : Float) (h : p < i) (k : i ≤ length d) where
-  next : insert x (slice p i d) ≡ cond (before (d ‼ p) x) (x ∷ insert (d ‼ p) (slice (suc p) i d)) (d ‼ p ∷ insert x (slice (suc p) i d))
+  next : insert x (slice p i d) ≡ cond (before (d ‼ p) x) (x ∷ slice p i d) (d ‼ p ∷ insert x (slice (suc p) i d))
   unfolding insert
   next = rw (slice-cons p i d nan h k)
 
-  -- the larger stays, here x, and the number that stood there is carried on
-  pub insert-larger : before (d ‼ p) x ≡ true → take p d ++ insert x (slice p i d) ≡ take (p + 1) (set d p x) ++ insert (d ‼ p) (slice (p + 1) i (set d p x))
-  insert-larger b =
-      let l : p < length d = omega arith in
-      let m : p < suc p = omega arith in
-      rw (next, b, add-one p, take-suc-set d p x l, drop-set-lt (suc p) d p x m) (sym (append-snoc (take p d) x (insert (d ‼ p) (slice (suc p) i d))))
+  -- x belongs here, or further on
+  pub insert-here : before (d ‼ p) x ≡ true → insert x (slice p i d) ≡ x ∷ slice p i d
+  insert-here b = next ∙ rw b
 
-  pub insert-smaller : before (d ‼ p) x ≡ false → take p d ++ insert x (slice p i d) ≡ take (p + 1) d ++ insert x (slice (p + 1) i d)
-  insert-smaller b =
+  pub insert-on : before (d ‼ p) x ≡ false → take p d ++ insert x (slice p i d) ≡ take (p + 1) d ++ insert x (slice (p + 1) i d)
+  insert-on b =
       let l : p < length d = omega arith in
       rw (next, b, add-one p, take-suc d p nan l) (sym (append-snoc (take p d) (d ‼ p) (insert x (slice (suc p) i d))))
+
+  -- x takes the place of a number, which is carried on
+  pub carry : take p d ++ (x ∷ slice p i d) ≡ take (p + 1) (set d p x) ++ (d ‼ p ∷ slice (p + 1) i (set d p x))
+  carry =
+      let l : p < length d = omega arith in
+      let m : p < suc p = omega arith in
+      rw (slice-cons p i d nan h k, add-one p, take-suc-set d p x l, take-set-lt i d p x h, drop-set-lt (suc p) (take i d) p x m)
+      (sym (append-snoc (take p d) x (d ‼ p ∷ slice (suc p) i d)))
+
+pub insert-last : (d : List Float) (i : ℕ) (x : Float) → insert x (slice i i d) ≡ x ∷ slice i i d
+unfolding insert
+insert-last d i x = rw (slice-empty i d)
 
 -- ---- lengths
 
 pub length-insert : (x : Float) (l : List Float) → length (insert x l) ≡ suc (length l)
 unfolding insert
 length-insert x [] = refl
-length-insert x (y ∷ r) = go (before y x) (length-insert y r) (length-insert x r)
+length-insert x (y ∷ r) = go (before y x) (length-insert x r)
   where
-    go : (b : Bool) → length (insert y r) ≡ suc (length r) → length (insert x r) ≡ suc (length r) → length (cond b (x ∷ insert y r) (y ∷ insert x r)) ≡ suc (suc (length r))
-    go true p q = ap suc p
-    go false p q = ap suc q
+    go : (b : Bool) → length (insert x r) ≡ suc (length r) → length (cond b (x ∷ (y ∷ r)) (y ∷ insert x r)) ≡ suc (suc (length r))
+    go true q = refl
+    go false q = ap suc q
 
 pub length-falling : (d : List Float) (n : ℕ) → length (falling d n) ≡ n
 unfolding falling
@@ -64,13 +73,43 @@ unfolding falling
 order-next d d₀ i h e =
     let s : d ≡ falling d₀ i ++ (d₀ ‼ i ∷ drop (suc i) d₀) = e ∙ ap (λ (l : List Float). falling d₀ i ++ l) (drop-cons d₀ i nan h) in
     let n = length-falling d₀ i in
-    rw (s, getD-at (falling d₀ i) (d₀ ‼ i) (drop (suc i) d₀) nan i n, take-at (falling d₀ i) (d₀ ‼ i ∷ drop (suc i) d₀) i n, add-one i)
-    (ap (λ (l : List Float). insert (d₀ ‼ i) (falling d₀ i) ++ l) ?)
+    let z : drop (suc i) d ≡ drop (suc i) d₀ = rw s (after (falling d₀ i) (d₀ ‼ i) (drop (suc i) d₀) i n) in
+    rw (add-one i, z, s, getD-at (falling d₀ i) (d₀ ‼ i) (drop (suc i) d₀) nan i n, take-at (falling d₀ i) (d₀ ‼ i ∷ drop (suc i) d₀) i n)
+  where
+    past : (l : List Float) (x : Float) (r : List Float) → drop (suc (length l)) (l ++ (x ∷ r)) ≡ r
+    past [] x r = refl
+    past (y ∷ l) x r = past l x r
+    after : (l : List Float) (x : Float) (r : List Float) (n : ℕ) → length l ≡ n → drop (suc n) (l ++ (x ∷ r)) ≡ r
+    after l x r n e = rw (← e) (past l x r)
 
 -- ---- what is kept, one number on
 
-pub large-next : (d : List Float) (t : ℕ) → t < length d → large (take (t + 1) d) ≡ large (take t d) ++ cond (lt (float 0x3ddb7cdfd9d7bdbb) (d ‼ t)) (d ‼ t ∷ []) []
-large-next d t h = rw (add-one t, take-suc d t nan h) (more (take t d) (d ‼ t))
+large-append : (l r : List Float) → large (l ++ r) ≡ large l ++ large r
+unfolding large
+large-append [] r = refl
+large-append (x ∷ l) r = go (lt (float 0x3ddb7cdfd9d7bdbb) x) (large-append l r)
   where
-    more : (l : List Float) (x : Float) → large (l ++ (x ∷ [])) ≡ large l ++ cond (lt (float 0x3ddb7cdfd9d7bdbb) x) (x ∷ []) []
-    more l x = ?
+    go : (b : Bool) → large (l ++ r) ≡ large l ++ large r → cond b (x ∷ large (l ++ r)) (large (l ++ r)) ≡ cond b (x ∷ large l) (large l) ++ large r
+    go true h = ap (λ (z : List Float). x ∷ z) h
+    go false h = h
+
+module _ (d : List Float) (t : ℕ) (h : t < length d) where
+  one-more : large (take (t + 1) d) ≡ large (take t d) ++ large (d ‼ t ∷ [])
+  one-more = rw (add-one t, take-suc d t nan h) (large-append (take t d) (d ‼ t ∷ []))
+
+  pub large-kept : lt (float 0x3ddb7cdfd9d7bdbb) (d ‼ t) ≡ true → large (take (t + 1) d) ≡ large (take t d) ++ (d ‼ t ∷ [])
+  unfolding large
+  large-kept b = one-more ∙ rw b
+
+  pub large-left : lt (float 0x3ddb7cdfd9d7bdbb) (d ‼ t) ≡ false → large (take (t + 1) d) ≡ large (take t d)
+  unfolding large
+  large-left b = one-more ∙ rw b (append-nil (large (take t d)))
+
+-- a store right behind the front of a list
+pub store-next : (front back : List Float) (x : Float) (n : ℕ) → n ≡ length front → n < length back → set (front ++ drop n back) n x ≡ (front ++ (x ∷ [])) ++ drop (n + 1) back
+store-next front back x n e h = rw (drop-cons back n nan h, add-one n) (set-at front (back ‼ n) (drop (suc n) back) x n (sym e) ∙ sym (append-snoc front x (drop (suc n) back)))
+
+-- the number that is carried to the end stands there
+pub put-last : (d d₀ : List Float) (i : ℕ) (x : Float) (whole : List Float) → i < length d → drop (i + 1) d ≡ drop (i + 1) d₀ → take i d ++ (x ∷ slice i i d) ≡ whole → set d i x ≡ whole ++ drop (i + 1) d₀
+put-last d d₀ i x whole h e w =
+    rw (← w, ← e, slice-empty i d, add-one i) (set-split d i x h ∙ sym (append-snoc (take i d) x (drop (suc i) d)))

@@ -7,10 +7,10 @@ use lib.Ieee.{Float, lt}
 use Rattle.floats.specs.Words.{float, _‼_}
 use Rattle.floats.specs.Signs.{before}
 
--- x put into a falling list: at each place the larger stays and the other is carried on
+-- x put into a falling list, before the first number that comes before it
 unfoldable pub insert : Float → List Float → List Float
 insert x [] = x ∷ []
-insert x (y ∷ r) = cond (before y x) (x ∷ insert y r) (y ∷ insert x r)
+insert x (y ∷ r) = cond (before y x) (x ∷ (y ∷ r)) (y ∷ insert x r)
 
 -- the first n numbers of d in falling order, by the total order of f64::total_cmp
 unfoldable pub falling : List Float → ℕ → List Float
