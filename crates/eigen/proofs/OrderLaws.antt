@@ -79,6 +79,7 @@ order-next d d₀ i h e =
     past : (l : List Float) (x : Float) (r : List Float) → drop (suc (length l)) (l ++ (x ∷ r)) ≡ r
     past [] x r = refl
     past (y ∷ l) x r = past l x r
+
     after : (l : List Float) (x : Float) (r : List Float) (n : ℕ) → length l ≡ n → drop (suc n) (l ++ (x ∷ r)) ≡ r
     after l x r n e = rw (← e) (past l x r)
 

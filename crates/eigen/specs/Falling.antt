@@ -1,8 +1,10 @@
--- What "never rises" says of a list: no number comes before the next in the total order. A statement only. Assumes nothing.
+-- What is said of the kept eigenvalues: they never rise, each is large, each is finite. Statements only. Assumes nothing.
 use mathlib.Core.Path.{_≡_}
 use mathlib.Core.Bool.{true, false}
 use mathlib.Core.List.{List, [], _∷_}
+use lib.Dec.{T}
 use lib.Ieee.{Float, lt}
+use lib.Ieee.Scale.{finite}
 use Rattle.floats.specs.Words.{float}
 use Rattle.floats.specs.Signs.{before}
 
@@ -16,3 +18,8 @@ NeverRises (x ∷ (y ∷ r)) = (before x y ≡ false) × NeverRises (y ∷ r)
 unfoldable pub AllLarge : List Float → Type 0
 AllLarge [] = Unit {0}
 AllLarge (x ∷ r) = (lt (float 0x3ddb7cdfd9d7bdbb) x ≡ true) × AllLarge r
+
+-- each number is finite
+unfoldable pub AllFinite : List Float → Type 0
+AllFinite [] = Unit {0}
+AllFinite (x ∷ r) = T (finite x) × AllFinite r
