@@ -19,7 +19,6 @@ ghost use Rattle.design.specs.Factor.{pivotsOf, factorOf, rowsMade};
 ghost use Rattle.design.specs.Inverse.{inverseFrom};
 ghost use Rattle.design.specs.Difference.{differenceAt};
 ghost use Rattle.design.specs.Law.{lawFrom, lawAnswer, normalP};
-
 use elementary::NormalLaw;
 use elementary::lower_tail;
 use elementary::upper_tail;
@@ -44,6 +43,7 @@ pub enum SizeAnswer {
 
 impl SheetSize {
     pub const MAX_ROWS: usize = 256;
+
     pub const MAX_COLUMNS: usize = 8;
 
     pub fn new(n: usize, k: usize) -> SizeAnswer
@@ -55,7 +55,10 @@ impl SheetSize {
         if k > SheetSize::MAX_COLUMNS {
             return SizeAnswer::TooManyColumns;
         }
-        SizeAnswer::Fits(SheetSize { rows: n, columns: k })
+        SizeAnswer::Fits(SheetSize {
+            rows: n,
+            columns: k,
+        })
     }
 }
 
@@ -112,6 +115,7 @@ pub enum Pivots {
 }
 
 const TOLERANCE: f64 = 1e-12;
+
 const LEAST_NORMAL: f64 = 2.2250738585072014e-308;
 
 // The Cholesky factor of X'X by rows, as far as the pivots hold; +0 in the rows beyond.

@@ -15,7 +15,6 @@ use Rattle.design.proofs.factor.Statement.{statement}
 use Rattle.design.proofs.factor.Tie as tie
 use Rattle.design.proofs.factor.Reads as reads
 use Rattle.design.proofs.factor.Lts as lts
-
 use Rattle.design.proofs.cholesky.left_of.Reads as left-of-reads
 use Rattle.design.proofs.cholesky.products.Reads as products-reads
 use Rattle.floats.proofs.signs.max.Reads as max-reads

@@ -13,7 +13,6 @@ use Rattle.design.proofs.cholesky.left_of.Statement.{statement}
 use Rattle.design.proofs.cholesky.left_of.Tie as tie
 use Rattle.design.proofs.cholesky.left_of.Reads as reads
 use Rattle.design.proofs.cholesky.left_of.Lts as lts
-
 use Rattle.design.proofs.cholesky.products.Reads as products-reads
 
 abbrev Inv-loop : tie.InvT-loop
