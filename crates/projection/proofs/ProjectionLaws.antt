@@ -18,8 +18,9 @@ use Rattle.floats.specs.Sums.{sumOf}
 use Rattle.floats.specs.Tables.{table, square, symmetric, part}
 use Rattle.floats.proofs.ListLaws.{row-in, getD-part, sum-same}
 use Rattle.floats.proofs.TableLaws.{length-table, getD-table}
+use Rattle.design.specs.Difference.{differenceAt}
 use Rattle.projection.specs.Matrix.{entry, layered, Symmetric}
-use Rattle.projection.specs.Projection.{difference, weight, hat, residual, maker, product, residualMaker, mamOf}
+use Rattle.projection.specs.Projection.{weight, hat, residual, maker, product, residualMaker, mamOf}
 use Rattle.projection.proofs.MatrixLaws.{lt-or-le, table-same, symmetric-same, entry-square, entry-symmetric, is-symmetric}
 use Rattle.projection.proofs.LayerLaws.{sums, sums-none, sums-more, length-sums}
 use Rattle.projection.proofs.MirrorLaws.{identified}
@@ -88,49 +89,48 @@ module _ (n t : ℕ) (m : List Float) where
       table-same (λ j. w ‼ j ⊕ (entry n m t j ⊖ entry n m (t - 1) j)) behind n
       (λ j l. rw (lt-ltb 0 t h, e, getD-table (λ j. plusZero) n j nan l))
 
-  pub ahead-last : n ≤ t + 1 → table behind n ≡ table (λ j. difference n (λ s. entry n m s j) t) n
-  unfolding behind difference
-  ahead-last h = table-same behind (λ j. difference n (λ s. entry n m s j) t) n (λ j l. rw (le-ltb (t + 1) n h))
+  pub ahead-last : n ≤ t + 1 → table behind n ≡ table (λ j. differenceAt (λ s. entry n m s j) n t) n
+  unfolding behind
+  ahead-last h = table-same behind (λ j. differenceAt (λ s. entry n m s j) n t) n (λ j l. rw (le-ltb (t + 1) n h))
 
-  pub ahead-earlier : (w : List Float) → t + 1 < n → w ≡ table behind n → table (λ j. w ‼ j ⊕ (entry n m t j ⊖ entry n m (t + 1) j)) n ≡ table (λ j. difference n (λ s. entry n m s j) t) n
-  unfolding behind difference
+  pub ahead-earlier : (w : List Float) → t + 1 < n → w ≡ table behind n → table (λ j. w ‼ j ⊕ (entry n m t j ⊖ entry n m (t + 1) j)) n ≡ table (λ j. differenceAt (λ s. entry n m s j) n t) n
+  unfolding behind
   ahead-earlier w h e =
-      table-same (λ j. w ‼ j ⊕ (entry n m t j ⊖ entry n m (t + 1) j)) (λ j. difference n (λ s. entry n m s j) t) n
+      table-same (λ j. w ‼ j ⊕ (entry n m t j ⊖ entry n m (t + 1) j)) (λ j. differenceAt (λ s. entry n m s j) n t) n
       (λ j l. rw (lt-ltb (t + 1) n h, e, getD-table behind n j nan l))
 
 -- ---- M A M, of the first t terms
 module _ (n : ℕ) (m : List Float) where
   unfoldable pub productTo : ℕ → List Float
-  productTo t = sums n (λ t i. entry n m i t) (λ t j. difference n (λ s. entry n m s j) t) t
+  productTo t = sums n (λ t i. entry n m i t) (λ t j. differenceAt (λ s. entry n m s j) n t) t
 
   pub length-product : (t : ℕ) → length (productTo t) ≡ n * n
   unfolding productTo
-  length-product t = length-sums n (λ t i. entry n m i t) (λ t j. difference n (λ s. entry n m s j) t) t
+  length-product t = length-sums n (λ t i. entry n m i t) (λ t j. differenceAt (λ s. entry n m s j) n t) t
 
   pub product-none : table (λ p. minusZero) (n * n) ≡ productTo 0
   unfolding productTo
-  product-none = sums-none n (λ t i. entry n m i t) (λ t j. difference n (λ s. entry n m s j) t)
+  product-none = sums-none n (λ t i. entry n m i t) (λ t j. differenceAt (λ s. entry n m s j) n t)
 
-  pub product-more : (t : ℕ) (b us ws : List Float) → b ≡ productTo t → us ≡ table (λ i. entry n m i t) n → ws ≡ table (λ j. difference n (λ s. entry n m s j) t) n
+  pub product-more : (t : ℕ) (b us ws : List Float) → b ≡ productTo t → us ≡ table (λ i. entry n m i t) n → ws ≡ table (λ j. differenceAt (λ s. entry n m s j) n t) n
       → square (layered n b us ws) n ≡ productTo (t + 1)
   unfolding productTo
   product-more t b us ws p q r =
       rw p
-      (sums-more n t (λ t i. entry n m i t) (λ t j. difference n (λ s. entry n m s j) t) us ws
+      (sums-more n t (λ t i. entry n m i t) (λ t j. differenceAt (λ s. entry n m s j) n t) us ws
       (λ i l. rw q (getD-table (λ i. entry n m i t) n i nan l))
-      (λ j l. rw r (getD-table (λ j. difference n (λ s. entry n m s j) t) n j nan l)))
+      (λ j l. rw r (getD-table (λ j. differenceAt (λ s. entry n m s j) n t) n j nan l)))
 
-  pub product-all : symmetric (entry n (productTo n)) n ≡ symmetric (λ i j. sumOf n (λ t. entry n m i t ⊗ difference n (λ s. entry n m s j) t)) n
+  pub product-all : symmetric (entry n (productTo n)) n ≡ symmetric (λ i j. sumOf n (λ t. entry n m i t ⊗ differenceAt (λ s. entry n m s j) n t)) n
   unfolding productTo sums
   product-all =
-      symmetric-same n (entry n (productTo n)) (λ i j. sumOf n (λ t. entry n m i t ⊗ difference n (λ s. entry n m s j) t))
-      (λ i j h l. entry-square n (λ i j. cond (leb j i) (sumOf n (λ t. entry n m i t ⊗ difference n (λ s. entry n m s j) t)) minusZero) i j h (omega arith) ∙ rw (le-leb j i l))
+      symmetric-same n (entry n (productTo n)) (λ i j. sumOf n (λ t. entry n m i t ⊗ differenceAt (λ s. entry n m s j) n t))
+      (λ i j h l. entry-square n (λ i j. cond (leb j i) (sumOf n (λ t. entry n m i t ⊗ differenceAt (λ s. entry n m s j) n t)) minusZero) i j h (omega arith) ∙ rw (le-leb j i l))
 
 -- ---- M A M, from the numbers that M's run holds
 
 -- A v at t reads numbers t - 1, t and t + 1 of v, those that it has
-difference-same : (n t : ℕ) (v w : ℕ → Float) → t < n → ((s : ℕ) → s < n → v s ≡ w s) → difference n v t ≡ difference n w t
-unfolding difference
+difference-same : (n t : ℕ) (v w : ℕ → Float) → t < n → ((s : ℕ) → s < n → v s ≡ w s) → differenceAt v n t ≡ differenceAt w n t
 difference-same n t v w h e = rw (e t h) (⊎-elim (λ (b : 0 < t). rw (lt-ltb 0 t b, e (t - 1) (omega arith)) (ahead (plusZero ⊕ (w t ⊖ w (t - 1))))) (λ (b : t ≤ 0). rw (le-ltb 0 t b) (ahead plusZero)) (lt-or-le 0 t))
   where
     ahead : (s : Float) → cond (ltb (t + 1) n) (s ⊕ (w t ⊖ v (t + 1))) s ≡ cond (ltb (t + 1) n) (s ⊕ (w t ⊖ w (t + 1))) s
@@ -140,12 +140,12 @@ module _ (x : List Float) (inv : List (List Float)) (n k : ℕ) where
   maker-entry : (i j : ℕ) → i < n → j < n → entry n (residualMaker x inv n k) i j ≡ residual x inv n k (max i j) (min i j)
   maker-entry i j h l = entry-symmetric n (residual x inv n k) i j h l
 
-  pub mam-of : symmetric (λ i j. sumOf n (λ t. entry n (residualMaker x inv n k) i t ⊗ difference n (λ s. entry n (residualMaker x inv n k) s j) t)) n ≡ mamOf x inv n k
+  pub mam-of : symmetric (λ i j. sumOf n (λ t. entry n (residualMaker x inv n k) i t ⊗ differenceAt (λ s. entry n (residualMaker x inv n k) s j) n t)) n ≡ mamOf x inv n k
   unfolding product
   mam-of =
-      symmetric-same n (λ i j. sumOf n (λ t. entry n (residualMaker x inv n k) i t ⊗ difference n (λ s. entry n (residualMaker x inv n k) s j) t)) (product x inv n k)
+      symmetric-same n (λ i j. sumOf n (λ t. entry n (residualMaker x inv n k) i t ⊗ differenceAt (λ s. entry n (residualMaker x inv n k) s j) n t)) (product x inv n k)
       (λ i j h l. let o : j < n = omega arith in
-      sum-same n (λ t. entry n (residualMaker x inv n k) i t ⊗ difference n (λ s. entry n (residualMaker x inv n k) s j) t) (λ t. maker x inv n k i t ⊗ difference n (λ s. maker x inv n k s j) t)
+      sum-same n (λ t. entry n (residualMaker x inv n k) i t ⊗ differenceAt (λ s. entry n (residualMaker x inv n k) s j) n t) (λ t. maker x inv n k i t ⊗ differenceAt (λ s. maker x inv n k s j) n t)
       (λ t b. rw (maker-entry i t h b, difference-same n t (λ s. entry n (residualMaker x inv n k) s j) (λ s. maker x inv n k s j) b (λ s d. maker-entry s j d o))))
 
   -- M and M A M are symmetric to the bit

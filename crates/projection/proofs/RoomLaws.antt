@@ -9,8 +9,9 @@ use lib.Ieee.{Float}
 use Rattle.floats.specs.Words.{_⊗_, plusZero, minusZero}
 use Rattle.floats.specs.Sums.{sumOf}
 use Rattle.floats.specs.Tables.{table, square, symmetric, part, withPart}
+use Rattle.design.specs.Difference.{differenceAt}
 use Rattle.projection.specs.Matrix.{entry, layered}
-use Rattle.projection.specs.Projection.{difference, residual, product, residualMaker, mamOf}
+use Rattle.projection.specs.Projection.{residual, product, residualMaker, mamOf}
 use Rattle.projection.proofs.MatrixLaws.{length-symmetric}
 use Rattle.projection.proofs.ProjectionLaws.{productTo, length-product, product-none, product-more, product-all, mam-of}
 
@@ -47,7 +48,7 @@ module _ (n : ℕ) (l : List Float) where
 
   -- one term more
   pub terms-more : (t : ℕ) (r : List Float) → r ≡ termsTo t
-      → square (layered n (take (n * n) r) (table (λ i. entry n (part (n * n) (n * n + n * n) r) i t) n) (table (λ j. difference n (λ s. entry n (part (n * n) (n * n + n * n) r) s j) t) n)) n ++ drop (n * n) r ≡ termsTo (t + 1)
+      → square (layered n (take (n * n) r) (table (λ i. entry n (part (n * n) (n * n + n * n) r) i t) n) (table (λ j. differenceAt (λ s. entry n (part (n * n) (n * n + n * n) r) s j) n t) n)) n ++ drop (n * n) r ≡ termsTo (t + 1)
   unfolding termsTo
   terms-more t r e =
       rw (e, front-of (productTo n second t) l (length-product n second t), back-part (productTo n second t) l (length-product n second t), back-of (productTo n second t) l (length-product n second t))
@@ -55,7 +56,7 @@ module _ (n : ℕ) (l : List Float) where
 
   -- all terms, mirrored
   pub terms-all : (r q : List Float) → r ≡ termsTo n → q ≡ symmetric (entry n (take (n * n) r)) n
-      → q ++ drop (n * n) r ≡ symmetric (λ i j. sumOf n (λ t. entry n second i t ⊗ difference n (λ s. entry n second s j) t)) n ++ drop (n * n) l
+      → q ++ drop (n * n) r ≡ symmetric (λ i j. sumOf n (λ t. entry n second i t ⊗ differenceAt (λ s. entry n second s j) n t)) n ++ drop (n * n) l
   unfolding termsTo
   terms-all r q e d =
       rw (d, e, front-of (productTo n second n) l (length-product n second n), back-of (productTo n second n) l (length-product n second n))
@@ -85,7 +86,7 @@ module _ (h : ℕ) (l m : List Float) (b : h + h ≤ length l) (e : length m ≡
 -- the room in the end
 module _ (x : List Float) (inv : List (List Float)) (n k : ℕ) (l : List Float) (b : n * n + n * n ≤ length l) where
   pub room-of : (m r q : List Float) → m ≡ residualMaker x inv n k → r ≡ withPart (n * n) (n * n + n * n) l m
-      → q ≡ symmetric (λ i j. sumOf n (λ t. entry n (part (n * n) (n * n + n * n) r) i t ⊗ difference n (λ s. entry n (part (n * n) (n * n + n * n) r) s j) t)) n ++ drop (n * n) r
+      → q ≡ symmetric (λ i j. sumOf n (λ t. entry n (part (n * n) (n * n + n * n) r) i t ⊗ differenceAt (λ s. entry n (part (n * n) (n * n + n * n) r) s j) n t)) n ++ drop (n * n) r
       → q ≡ mamOf x inv n k ++ (residualMaker x inv n k ++ drop (n * n + n * n) l)
   room-of m r q e f g =
       let size : length (residualMaker x inv n k) ≡ n * n = length-symmetric n (residual x inv n k) in

@@ -13,8 +13,9 @@ ghost use Rattle.floats.specs.Words.{_⊕_, _⊖_, _⊗_, _‼_, minusZero};
 ghost use Rattle.floats.specs.Sums.{sumOf};
 ghost use Rattle.floats.specs.Search.{firstBad};
 ghost use Rattle.floats.specs.Tables.{table, square, symmetric, part};
+ghost use Rattle.design.specs.Difference.{differenceAt};
 ghost use Rattle.projection.specs.Matrix.{entry, layered};
-ghost use Rattle.projection.specs.Projection.{difference, weight, hat, residualMaker, mamOf};
+ghost use Rattle.projection.specs.Projection.{weight, hat, residualMaker, mamOf};
 use floats::search::Found;
 
 pub mod matrix;
@@ -82,7 +83,7 @@ fn add_row_difference(w: &mut [f64], m: &[f64], n: usize, t: usize, s: usize)
 // Row t of A M: three rows of M make it.
 fn differences(w: &mut [f64], m: &[f64], n: usize, t: usize)
     requires { ⌜ (length (now w) ≡ n) × (length (now m) ≡ n * n) × (t < n) ⌝ }
-    ensures { λ _. ⌜ now (w .exit) ≡ table (λ j. difference n (λ s. entry n (now (m .entry)) s j) t) n ⌝ }
+    ensures { λ _. ⌜ now (w .exit) ≡ table (λ j. differenceAt (λ s. entry n (now (m .entry)) s j) n t) n ⌝ }
 {
     rows::fill(w, 0.0);
     if t > 0 {
@@ -97,7 +98,7 @@ fn differences(w: &mut [f64], m: &[f64], n: usize, t: usize)
 // room for a column and a row.
 fn add_term(room: &mut [f64], u: &mut [f64], w: &mut [f64], n: usize, t: usize)
     requires { ⌜ (n * n + n * n ≤ length (now room)) × (length (now u) ≡ n) × (length (now w) ≡ n) × (t < n) ⌝ }
-    ensures { λ _. ⌜ now (room .exit) ≡ square (layered n (take (n * n) (now (room .entry))) (table (λ i. entry n (part (n * n) (n * n + n * n) (now (room .entry))) i t) n) (table (λ j. difference n (λ s. entry n (part (n * n) (n * n + n * n) (now (room .entry))) s j) t) n)) n ++ drop (n * n) (now (room .entry)) ⌝ }
+    ensures { λ _. ⌜ now (room .exit) ≡ square (layered n (take (n * n) (now (room .entry))) (table (λ i. entry n (part (n * n) (n * n + n * n) (now (room .entry))) i t) n) (table (λ j. differenceAt (λ s. entry n (part (n * n) (n * n + n * n) (now (room .entry))) s j) n t) n)) n ++ drop (n * n) (now (room .entry)) ⌝ }
 {
     let half = n * n;
     let full = half + half;
@@ -109,7 +110,7 @@ fn add_term(room: &mut [f64], u: &mut [f64], w: &mut [f64], n: usize, t: usize)
 // M A M into the first half of the room, from M in the second.
 fn products(room: &mut [f64], u: &mut [f64], w: &mut [f64], n: usize)
     requires { ⌜ (n * n + n * n ≤ length (now room)) × (length (now u) ≡ n) × (length (now w) ≡ n) ⌝ }
-    ensures { λ _. ⌜ now (room .exit) ≡ symmetric (λ i j. sumOf n (λ t. entry n (part (n * n) (n * n + n * n) (now (room .entry))) i t ⊗ difference n (λ s. entry n (part (n * n) (n * n + n * n) (now (room .entry))) s j) t)) n ++ drop (n * n) (now (room .entry)) ⌝ }
+    ensures { λ _. ⌜ now (room .exit) ≡ symmetric (λ i j. sumOf n (λ t. entry n (part (n * n) (n * n + n * n) (now (room .entry))) i t ⊗ differenceAt (λ s. entry n (part (n * n) (n * n + n * n) (now (room .entry))) s j) n t)) n ++ drop (n * n) (now (room .entry)) ⌝ }
 {
     let half = n * n;
     rows::fill(&mut room[..half], -0.0);
