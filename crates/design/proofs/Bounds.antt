@@ -1,30 +1,28 @@
 -- p by the normal law lies in 0 .. 1. One-sided it is a tail, and those do. Two-sided it is twice an upper tail at a point that is not below the mean, which is at most 1/2. Assumes nothing.
-use mathlib.Core.Path.{_≡_, refl, sym, ap, _∙_, subst}
-use mathlib.Core.Bool.{Bool, true, false, not, _&&_, _||_, cond, true≢false}
+use mathlib.Core.Path.{_≡_, refl, sym, _∙_, subst}
+use mathlib.Core.Bool.{Bool, true, false, _&&_, _||_, cond, true≢false}
 use Prim.Native.Nat.{ℕ, zero, suc, _+_, _*_, _^_, _≤_, _<_}
 use native.Mathlib.Nat.{zero-mul, mul-pos, lt-irrefl, zero-lt-suc}
 use native.Mathlib.Omega.{arith}
-use lib.IntN.{ℤ, pos}
-use lib.Dec.{T, ltb, eqb, lit<}
-use lib.Ieee.{Float, nan, inf, fin, binary64, up, down, below, level, unlike, round, mul, sub, lt, eq, le, isNan, fits, ofBits}
-use lib.Ieee.Fits.{up-pos, down-pos, div-fits, mul-fits}
-use lib.Ieee.Bits.{is-true}
+use lib.IntN.{ℤ}
+use lib.Dec.{ltb, eqb, lit<}
+use lib.Ieee.{Float, nan, inf, fin, binary64, up, down, below, level, round, mul, lt, eq, le, isNan, ofBits}
+use lib.Ieee.Fits.{down-pos, div-fits, mul-fits}
 use lib.Ieee.Exact.{HasValue, round-exact}
 use lib.Ieee.Scale.{finite}
-use borrow.Author.Tests.{ltb-true, eqb-true, lt-ltb, eq-eqb}
+use borrow.Author.Tests.{ltb-true, eqb-true, lt-ltb}
 use Rattle.floats.specs.Words.{_⊕_, _⊖_, _⊗_, plusZero, one, two}
 use Rattle.floats.specs.Signs.{absOf}
 use Rattle.elementary.specs.declared.NormalLaw.{NormalLaw}
-use Rattle.elementary.specs.Tails.{half, lowerTail, upperTail}
-use Rattle.elementary.specs.Bounds.{Within, Proper}
+use Rattle.elementary.specs.Tails.{half, upperTail}
+use Rattle.elementary.specs.Bounds.{Within}
 use Rattle.elementary.proofs.Small.{fraction-within}
 use Rattle.elementary.proofs.Leaning.{difference-number}
 use Rattle.elementary.proofs.Bounds.{tails-within-one, upper-within-half}
-use Rattle.design.specs.Law.{lawFrom, lawAnswer, normalP}
+use Rattle.design.specs.Law.{lawFrom, lawAnswer}
 use Rattle.design.specs.Bounds.{PWithinOne, ColumnsPWithinOne}
 use Rattle.design.specs.declared.LawAnswer.{LawAnswer}
 use Rattle.design.specs.declared.LawAnswer.the-variants.{Usable, NotFinite, NotSpread}
-use Rattle.design.specs.declared.Alternative.{Alternative}
 use Rattle.design.specs.declared.Alternative.the-variants.{Greater, Less, TwoSided}
 use Rattle.design.proofs.NotBelow.{Plus, wide, part, not-below}
 

@@ -1,10 +1,9 @@
 -- What a size that fits, and columns that are sound, tell of n, k and the run. Each goes by the tests in their order. Assumes nothing.
-use mathlib.Core.Path.{_≡_, refl, sym, _∙_}
+use mathlib.Core.Path.{_≡_, refl, sym}
 use mathlib.Core.Bool.{Bool, true, false, cond}
 use mathlib.Core.List.{List}
 use Prim.Native.Nat.{ℕ, _*_, _≤_, _<_}
 use native.Mathlib.Omega.{arith}
-use native.Mathlib.Nat.{mul-le-mul}
 use lib.Dec.{ltb, eqb}
 use lib.ListN.{length}
 use lib.Ieee.{Float}
@@ -16,7 +15,7 @@ use Rattle.design.specs.declared.SheetSize.{SheetSize}
 use Rattle.design.specs.declared.SizeAnswer.{SizeAnswer}
 use Rattle.design.specs.declared.SizeAnswer.the-variants.{Fits, TooManyRows, TooManyColumns}
 use Rattle.design.specs.declared.Columns.{Columns}
-use Rattle.design.specs.declared.Columns.the-variants.{NoColumn, RowsOver, ColumnsOver, WrongLength, NotFinite, Sound}
+use Rattle.design.specs.declared.Columns.the-variants.{NoColumn, WrongLength, Sound}
 use Rattle.design.specs.Sheet.{sizeOf, numbersBy, runOf, runBy, columnsOf}
 
 -- a size that fits is the one asked for, and within the limits
