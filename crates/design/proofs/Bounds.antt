@@ -14,7 +14,8 @@ use borrow.Author.Tests.{ltb-true, eqb-true, lt-ltb}
 use Rattle.floats.specs.Words.{_⊕_, _⊖_, _⊗_, plusZero, one, two}
 use Rattle.floats.specs.Signs.{absOf}
 use Rattle.elementary.specs.declared.NormalLaw.{NormalLaw}
-use Rattle.elementary.specs.Tails.{half, upperTail}
+use Rattle.elementary.specs.Patterns.{half}
+use Rattle.elementary.specs.Tails.{upperTail}
 use Rattle.elementary.specs.Bounds.{Within}
 use Rattle.elementary.proofs.Small.{fraction-within}
 use Rattle.elementary.proofs.Leaning.{difference-number}

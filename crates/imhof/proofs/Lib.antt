@@ -9,3 +9,4 @@ pub mod NoNan
 pub mod Probability
 pub mod Midpoint
 pub mod Ordered
+pub mod BeyondLaws
