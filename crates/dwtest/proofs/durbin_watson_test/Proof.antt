@@ -1,0 +1,91 @@
+use Prim.Native.Nat.{_*_}
+use borrow.Author.Tests.{eq-eqb, ne-eqb}
+use mathlib.Core.Path.{_≡_, refl, sym, ap, _∙_}
+use native.Mathlib.Omega.{arith}
+use lib.ListN.{length}
+use Rattle.dwtest.specs.Refusals.{passes, columnsRefusal}
+use Rattle.dwtest.specs.Result.{refusedOf}
+use Rattle.dwtest.proofs.SheetLaws.{sized-of, more-rows}
+use Rattle.dwtest.proofs.TestLaws.{columns-refused, statistic-refused, rows-refused, runs-pass, untouched}
+use borrow.Author.Needs.{needs}
+use Rattle.dwtest.proofs.durbin_watson_test.Statement.{statement}
+use Rattle.dwtest.proofs.durbin_watson_test.Tie as tie
+use Rattle.dwtest.proofs.durbin_watson_test.Reads as reads
+use Rattle.dwtest.proofs.durbin_watson_test.Lts as lts
+use Rattle.autocorrelation.proofs.durbin_watson.Reads as durbin-watson-reads
+use Rattle.design.proofs.check_columns.Reads as check-columns-reads
+use Rattle.dwtest.proofs.checks.of_columns.Reads as of-columns-reads
+use Rattle.dwtest.proofs.checks.of_rows.Reads as of-rows-reads
+use Rattle.dwtest.proofs.checks.of_statistic.Reads as of-statistic-reads
+use Rattle.dwtest.proofs.checks.statistic.Reads as statistic-reads
+use Rattle.dwtest.proofs.paths.refused.Reads as refused-reads
+use Rattle.dwtest.proofs.test_design.Reads as test-design-reads
+
+check-columns-requires : tie.Need-check-columns-requires
+check-columns-requires c κs = search needs
+
+of-columns-requires : tie.Need-of-columns-requires
+of-columns-requires c κs = search needs
+
+refused-requires : tie.Need-refused-requires
+refused-requires c κs = search needs
+
+returns : tie.Need-returns
+returns c = let s = columns-refused (c .before .before .before .before .before .before .before .before .before .args .residuals .now) (c .before .before .before .before .before .before .before .before .before .args .columns .now) (c .before .before .before .before .before .before .before .before .before .args .k) (c .before .before .before .before .before .before .before .before .before .args .alternative) (c .before .before .before .before .before .before .before .before .before .args .choice) (length (c .before .before .before .before .before .before .before .before .before .args .matrix .now)) (length (c .before .before .before .before .before .before .before .before .before .args .parts .now)) _ (sym (c .before .before .before .before .check-columns .ensures)) (ap passes (sym (c .before .before .before .of-columns .ensures)) ∙ ne-eqb _ _ (c .before .if1 .taken)) in (c .refused .ensures ∙ ap refusedOf (c .before .before .before .of-columns .ensures) ∙ sym (s .0), (untouched _ (2 * ((length (c .before .before .before .before .before .before .before .before .before .args .residuals .now)) * (length (c .before .before .before .before .before .before .before .before .before .args .residuals .now)))) (c .before .before .before .before .before .before .before .before .before .args .matrix .now) (s .1), untouched _ 8004 (c .before .before .before .before .before .before .before .before .before .args .parts .now) (s .1)))
+
+durbin-watson-requires : tie.Need-durbin-watson-requires
+durbin-watson-requires c κs = search needs
+
+of-statistic-requires : tie.Need-of-statistic-requires
+of-statistic-requires c κs = search needs
+
+refused-requires-2 : tie.Need-refused-requires-2
+refused-requires-2 c κs = search needs
+
+returns-2 : tie.Need-returns-2
+returns-2 c = let s = statistic-refused (c .before .before .before .before .before .before .before .before .before .before .before .before .before .args .residuals .now) (c .before .before .before .before .before .before .before .before .before .before .before .before .before .args .columns .now) (c .before .before .before .before .before .before .before .before .before .before .before .before .before .args .k) (c .before .before .before .before .before .before .before .before .before .before .before .before .before .args .alternative) (c .before .before .before .before .before .before .before .before .before .before .before .before .before .args .choice) (length (c .before .before .before .before .before .before .before .before .before .before .before .before .before .args .matrix .now)) (length (c .before .before .before .before .before .before .before .before .before .before .before .before .before .args .parts .now)) _ (sym (c .before .before .before .before .before .before .before .before .check-columns .ensures)) (ap passes (sym (c .before .before .before .before .before .before .before .of-columns .ensures)) ∙ eq-eqb _ _ (c .before .before .before .before .before .if1 .left)) _ (sym (c .before .before .before .before .durbin-watson .ensures))  (ap passes (sym (c .before .before .before .of-statistic .ensures)) ∙ ne-eqb _ _ (c .before .if2 .taken)) in (c .refused2 .ensures ∙ ap refusedOf (c .before .before .before .of-statistic .ensures) ∙ sym (s .0), (untouched _ (2 * ((length (c .before .before .before .before .before .before .before .before .before .before .before .before .before .args .residuals .now)) * (length (c .before .before .before .before .before .before .before .before .before .before .before .before .before .args .residuals .now)))) (c .before .before .before .before .before .before .before .before .before .before .before .before .before .args .matrix .now) (s .1), untouched _ 8004 (c .before .before .before .before .before .before .before .before .before .before .before .before .before .args .parts .now) (s .1)))
+
+of-rows-requires : tie.Need-of-rows-requires
+of-rows-requires c κs = search needs
+
+refused-requires-3 : tie.Need-refused-requires-3
+refused-requires-3 c κs = search needs
+
+returns-3 : tie.Need-returns-3
+returns-3 c = let s = rows-refused (c .before .before .before .before .before .before .before .before .before .before .before .before .before .before .before .before .args .residuals .now) (c .before .before .before .before .before .before .before .before .before .before .before .before .before .before .before .before .args .columns .now) (c .before .before .before .before .before .before .before .before .before .before .before .before .before .before .before .before .args .k) (c .before .before .before .before .before .before .before .before .before .before .before .before .before .before .before .before .args .alternative) (c .before .before .before .before .before .before .before .before .before .before .before .before .before .before .before .before .args .choice) (length (c .before .before .before .before .before .before .before .before .before .before .before .before .before .before .before .before .args .matrix .now)) (length (c .before .before .before .before .before .before .before .before .before .before .before .before .before .before .before .before .args .parts .now)) _ (sym (c .before .before .before .before .before .before .before .before .before .before .before .check-columns .ensures)) (ap passes (sym (c .before .before .before .before .before .before .before .before .before .before .of-columns .ensures)) ∙ eq-eqb _ _ (c .before .before .before .before .before .before .before .before .if1 .left)) _ (sym (c .before .before .before .before .before .before .before .durbin-watson .ensures))  (ap passes (sym (c .before .before .before .before .before .before .of-statistic .ensures)) ∙ eq-eqb _ _ (c .before .before .before .before .if2 .left)) (ap passes (sym (c .before .before .before .of-rows .ensures)) ∙ ne-eqb _ _ (c .before .if3 .taken)) in (c .refused3 .ensures ∙ ap refusedOf (c .before .before .before .of-rows .ensures) ∙ sym (s .0), (untouched _ (2 * ((length (c .before .before .before .before .before .before .before .before .before .before .before .before .before .before .before .before .args .residuals .now)) * (length (c .before .before .before .before .before .before .before .before .before .before .before .before .before .before .before .before .args .residuals .now)))) (c .before .before .before .before .before .before .before .before .before .before .before .before .before .before .before .before .args .matrix .now) (s .1), untouched _ 8004 (c .before .before .before .before .before .before .before .before .before .before .before .before .before .before .before .before .args .parts .now) (s .1)))
+
+statistic-requires : tie.Need-statistic-requires
+statistic-requires c κs = search needs
+
+test-design-requires : tie.Need-test-design-requires
+test-design-requires c κs = let z = sized-of _ _ _ (ap (λ c. passes (columnsRefusal c)) (sym (c .before .before .before .before .before .before .before .before .before .before .before .before .before .check-columns .ensures)) ∙ ap passes (sym (c .before .before .before .before .before .before .before .before .before .before .before .before .of-columns .ensures)) ∙ eq-eqb _ _ (c .before .before .before .before .before .before .before .before .before .before .if1 .left)) in (z .rows, z .some, more-rows _ _ (ap passes (sym (c .before .before .before .before .before .of-rows .ensures)) ∙ eq-eqb _ _ (c .before .before .before .if3 .left)), z .columns, z .run)
+
+same-length : tie.Need-same-length
+same-length c = search needs
+
+same-length-2 : tie.Need-same-length-2
+same-length-2 c = search needs
+
+returns-4 : tie.Need-returns-4
+returns-4 c = let s = runs-pass (c .before .before .before .before .before .before .before .before .before .before .before .before .before .before .before .before .before .before .before .before .before .before .before .args .residuals .now) (c .before .before .before .before .before .before .before .before .before .before .before .before .before .before .before .before .before .before .before .before .before .before .before .args .columns .now) (c .before .before .before .before .before .before .before .before .before .before .before .before .before .before .before .before .before .before .before .before .before .before .before .args .k) (c .before .before .before .before .before .before .before .before .before .before .before .before .before .before .before .before .before .before .before .before .before .before .before .args .alternative) (c .before .before .before .before .before .before .before .before .before .before .before .before .before .before .before .before .before .before .before .before .before .before .before .args .choice) (length (c .before .before .before .before .before .before .before .before .before .before .before .before .before .before .before .before .before .before .before .before .before .before .before .args .matrix .now)) (length (c .before .before .before .before .before .before .before .before .before .before .before .before .before .before .before .before .before .before .before .before .before .before .before .args .parts .now)) _ (sym (c .before .before .before .before .before .before .before .before .before .before .before .before .before .before .before .before .before .before .check-columns .ensures)) (ap passes (sym (c .before .before .before .before .before .before .before .before .before .before .before .before .before .before .before .before .before .of-columns .ensures)) ∙ eq-eqb _ _ (c .before .before .before .before .before .before .before .before .before .before .before .before .before .before .before .if1 .left)) _ (sym (c .before .before .before .before .before .before .before .before .before .before .before .before .before .before .durbin-watson .ensures))  (ap passes (sym (c .before .before .before .before .before .before .before .before .before .before .before .before .before .of-statistic .ensures)) ∙ eq-eqb _ _ (c .before .before .before .before .before .before .before .before .before .before .before .if2 .left)) (ap passes (sym (c .before .before .before .before .before .before .before .before .before .before .of-rows .ensures)) ∙ eq-eqb _ _ (c .before .before .before .before .before .before .before .before .if3 .left)) in (c .before .before .before .before .test-design .ensures .0 ∙ rw (c .before .before .before .before .before .before .before .statistic .ensures) (sym (s .0)), (c .before .before .before .before .test-design .ensures .1 .0 ∙ rw (s .1), c .before .before .before .before .test-design .ensures .1 .1 ∙ rw (s .1)))
+
+pub durbin-watson-test-spec : {M : Type 1} → statement M
+durbin-watson-test-spec =
+    tie.close
+    (tie.spec
+    check-columns-requires
+    of-columns-requires
+    refused-requires
+    returns
+    durbin-watson-requires
+    of-statistic-requires
+    refused-requires-2
+    returns-2
+    of-rows-requires
+    refused-requires-3
+    returns-3
+    statistic-requires
+    test-design-requires
+    same-length
+    same-length-2
+    returns-4)

@@ -1,0 +1,136 @@
+use Prim.Native.Nat.{_*_}
+use borrow.Author.Tests.{lt-ltb, le-ltb, eq-eqb, ne-eqb, not-true, not-false}
+use mathlib.Core.Path.{_≡_, refl, sym, ap, _∙_}
+use native.Mathlib.Omega.{arith}
+use lib.ListN.{length}
+use Rattle.design.specs.Factor.{factorOf, rowsMade}
+use Rattle.design.specs.Inverse.{inverseFrom}
+use Rattle.dwtest.specs.Refusals.{passes, pivotsRefusal}
+use Rattle.dwtest.specs.Result.{refusedOf}
+use Rattle.dwtest.proofs.SheetLaws.{pivots-hold, rooms-fit}
+use lib.Dec.{lit<}
+use native.Mathlib.Nat.{lt-of-le-of-lt, mul-le-mul-left}
+use Rattle.dwtest.proofs.RoomLaws.{square-small}
+use Rattle.dwtest.proofs.TestLaws.{pivot-fails, inverse-refused, too-few, by-normal, no-room, by-exact, untouched, wiped}
+use borrow.Author.Needs.{needs}
+use Rattle.dwtest.proofs.test_design.Statement.{statement}
+use Rattle.dwtest.proofs.test_design.Tie as tie
+use Rattle.dwtest.proofs.test_design.Reads as reads
+use Rattle.dwtest.proofs.test_design.Lts as lts
+use Rattle.design.proofs.factor.Reads as factor-reads
+use Rattle.design.proofs.inverse_of_factor.Reads as inverse-of-factor-reads
+use Rattle.dwtest.proofs.checks.of_inverse.Reads as of-inverse-reads
+use Rattle.dwtest.proofs.checks.of_pivots.Reads as of-pivots-reads
+use Rattle.dwtest.proofs.checks.of_rooms.Reads as of-rooms-reads
+use Rattle.dwtest.proofs.clear.Reads as clear-reads
+use Rattle.dwtest.proofs.paths.accepted.Reads as accepted-reads
+use Rattle.dwtest.proofs.paths.exact.Reads as exact-reads
+use Rattle.dwtest.proofs.paths.normal.Reads as normal-reads
+use Rattle.dwtest.proofs.paths.refused.Reads as refused-reads
+use Rattle.dwtest.proofs.paths.wants_exact.Reads as wants-exact-reads
+use Rattle.floats.proofs.tally.Tally.new.Reads as new-reads
+
+factor-requires : tie.Need-factor-requires
+factor-requires c κs = search needs
+
+of-pivots-requires : tie.Need-of-pivots-requires
+of-pivots-requires c κs = search needs
+
+refused-requires : tie.Need-refused-requires
+refused-requires c κs = search needs
+
+returns : tie.Need-returns
+returns c = let q = ap passes (sym (c .before .before .before .of-pivots .ensures)) ∙ ne-eqb _ _ (c .before .if1 .taken) in let s = pivot-fails (c .before .before .before .before .before .before .before .before .before .args .columns .now) (c .before .before .before .before .before .before .before .before .before .args .n) (c .before .before .before .before .before .before .before .before .before .args .k) (c .before .before .before .before .before .before .before .before .before .args .d) (c .before .before .before .before .before .before .before .before .before .args .alternative) (c .before .before .before .before .before .before .before .before .before .args .choice) (length (c .before .before .before .before .before .before .before .before .before .args .matrix .now)) (length (c .before .before .before .before .before .before .before .before .before .args .parts .now)) _ (sym (c .before .before .before .before .factor .ensures .0)) q in (c .refused .ensures ∙ ap refusedOf (c .before .before .before .of-pivots .ensures) ∙ sym (s .0), (untouched _ (2 * ((c .before .before .before .before .before .before .before .before .before .args .n) * (c .before .before .before .before .before .before .before .before .before .args .n))) (c .before .before .before .before .before .before .before .before .before .args .matrix .now) (s .1), untouched _ 8004 (c .before .before .before .before .before .before .before .before .before .args .parts .now) (s .1)))
+
+inverse-of-factor-requires : tie.Need-inverse-of-factor-requires
+inverse-of-factor-requires c κs = search needs
+
+of-inverse-requires : tie.Need-of-inverse-requires
+of-inverse-requires c κs = search needs
+
+refused-requires-2 : tie.Need-refused-requires-2
+refused-requires-2 c κs = search needs
+
+returns-2 : tie.Need-returns-2
+returns-2 c = let q = ap passes (sym (c .before .before .before .before .before .before .before .of-pivots .ensures)) ∙ eq-eqb _ _ (c .before .before .before .before .before .if1 .left) in let hold = pivots-hold _ (ap (λ p. passes (pivotsRefusal p)) (sym (c .before .before .before .before .before .before .before .before .factor .ensures .0)) ∙ q) in let inv = sym (c .before .before .before .before .inverse-of-factor .ensures ∙ ap (λ z. inverseFrom z (c .before .before .before .before .before .before .before .before .before .before .before .before .before .args .k)) (c .before .before .before .before .before .before .before .before .factor .ensures .1 ∙ ap (λ p. factorOf (c .before .before .before .before .before .before .before .before .before .before .before .before .before .args .columns .now) (c .before .before .before .before .before .before .before .before .before .before .before .before .before .args .n) (rowsMade (c .before .before .before .before .before .before .before .before .before .before .before .before .before .args .k) p)) hold)) in let f = ap passes (sym (c .before .before .before .of-inverse .ensures)) ∙ ne-eqb _ _ (c .before .if2 .taken) in let s = inverse-refused (c .before .before .before .before .before .before .before .before .before .before .before .before .before .args .columns .now) (c .before .before .before .before .before .before .before .before .before .before .before .before .before .args .n) (c .before .before .before .before .before .before .before .before .before .before .before .before .before .args .k) (c .before .before .before .before .before .before .before .before .before .before .before .before .before .args .d) (c .before .before .before .before .before .before .before .before .before .before .before .before .before .args .alternative) (c .before .before .before .before .before .before .before .before .before .before .before .before .before .args .choice) (length (c .before .before .before .before .before .before .before .before .before .before .before .before .before .args .matrix .now)) (length (c .before .before .before .before .before .before .before .before .before .before .before .before .before .args .parts .now)) _ hold inv f in (c .refused2 .ensures ∙ ap refusedOf (c .before .before .before .of-inverse .ensures) ∙ sym (s .0), (untouched _ (2 * ((c .before .before .before .before .before .before .before .before .before .before .before .before .before .args .n) * (c .before .before .before .before .before .before .before .before .before .before .before .before .before .args .n))) (c .before .before .before .before .before .before .before .before .before .before .before .before .before .args .matrix .now) (s .1), untouched _ 8004 (c .before .before .before .before .before .before .before .before .before .before .before .before .before .args .parts .now) (s .1)))
+
+new-requires : tie.Need-new-requires
+new-requires c κs = search needs
+
+accepted-requires : tie.Need-accepted-requires
+accepted-requires c κs = search needs
+
+returns-3 : tie.Need-returns-3
+returns-3 c = let q = ap passes (sym (c .before .before .before .before .before .before .before .before .before .of-pivots .ensures)) ∙ eq-eqb _ _ (c .before .before .before .before .before .before .before .if1 .left) in let hold = pivots-hold _ (ap (λ p. passes (pivotsRefusal p)) (sym (c .before .before .before .before .before .before .before .before .before .before .factor .ensures .0)) ∙ q) in let inv = sym (c .before .before .before .before .before .before .inverse-of-factor .ensures ∙ ap (λ z. inverseFrom z (c .before .before .before .before .before .before .before .before .before .before .before .before .before .before .before .args .k)) (c .before .before .before .before .before .before .before .before .before .before .factor .ensures .1 ∙ ap (λ p. factorOf (c .before .before .before .before .before .before .before .before .before .before .before .before .before .before .before .args .columns .now) (c .before .before .before .before .before .before .before .before .before .before .before .before .before .before .before .args .n) (rowsMade (c .before .before .before .before .before .before .before .before .before .before .before .before .before .before .before .args .k) p)) hold)) in let f = ap passes (sym (c .before .before .before .before .before .of-inverse .ensures)) ∙ eq-eqb _ _ (c .before .before .before .if2 .left) in let s = too-few (c .before .before .before .before .before .before .before .before .before .before .before .before .before .before .before .args .columns .now) (c .before .before .before .before .before .before .before .before .before .before .before .before .before .before .before .args .n) (c .before .before .before .before .before .before .before .before .before .before .before .before .before .before .before .args .k) (c .before .before .before .before .before .before .before .before .before .before .before .before .before .before .before .args .d) (c .before .before .before .before .before .before .before .before .before .before .before .before .before .before .before .args .alternative) (c .before .before .before .before .before .before .before .before .before .before .before .before .before .before .before .args .choice) (length (c .before .before .before .before .before .before .before .before .before .before .before .before .before .before .before .args .matrix .now)) (length (c .before .before .before .before .before .before .before .before .before .before .before .before .before .before .before .args .parts .now)) _ hold inv f (lt-ltb (c .before .before .before .before .before .before .before .before .before .before .before .before .before .before .before .args .n) 3 (c .before .if3 .taken)) in (c .accepted .ensures ∙ rw (c .before .before .new .ensures) (sym (s .0)), (untouched _ (2 * ((c .before .before .before .before .before .before .before .before .before .before .before .before .before .before .before .args .n) * (c .before .before .before .before .before .before .before .before .before .before .before .before .before .before .before .args .n))) (c .before .before .before .before .before .before .before .before .before .before .before .before .before .before .before .args .matrix .now) (s .1), untouched _ 8004 (c .before .before .before .before .before .before .before .before .before .before .before .before .before .before .before .args .parts .now) (s .1)))
+
+wants-exact-requires : tie.Need-wants-exact-requires
+wants-exact-requires c κs = search needs
+
+normal-requires : tie.Need-normal-requires
+normal-requires c κs = search needs
+
+returns-4 : tie.Need-returns-4
+returns-4 c = let q = ap passes (sym (c .before .before .before .before .before .before .before .before .before .before .before .of-pivots .ensures)) ∙ eq-eqb _ _ (c .before .before .before .before .before .before .before .before .before .if1 .left) in let hold = pivots-hold _ (ap (λ p. passes (pivotsRefusal p)) (sym (c .before .before .before .before .before .before .before .before .before .before .before .before .factor .ensures .0)) ∙ q) in let inv = sym (c .before .before .before .before .before .before .before .before .inverse-of-factor .ensures ∙ ap (λ z. inverseFrom z (c .before .before .before .before .before .before .before .before .before .before .before .before .before .before .before .before .before .args .k)) (c .before .before .before .before .before .before .before .before .before .before .before .before .factor .ensures .1 ∙ ap (λ p. factorOf (c .before .before .before .before .before .before .before .before .before .before .before .before .before .before .before .before .before .args .columns .now) (c .before .before .before .before .before .before .before .before .before .before .before .before .before .before .before .before .before .args .n) (rowsMade (c .before .before .before .before .before .before .before .before .before .before .before .before .before .before .before .before .before .args .k) p)) hold)) in let f = ap passes (sym (c .before .before .before .before .before .before .before .of-inverse .ensures)) ∙ eq-eqb _ _ (c .before .before .before .before .before .if2 .left) in let s = by-normal (c .before .before .before .before .before .before .before .before .before .before .before .before .before .before .before .before .before .args .columns .now) (c .before .before .before .before .before .before .before .before .before .before .before .before .before .before .before .before .before .args .n) (c .before .before .before .before .before .before .before .before .before .before .before .before .before .before .before .before .before .args .k) (c .before .before .before .before .before .before .before .before .before .before .before .before .before .before .before .before .before .args .d) (c .before .before .before .before .before .before .before .before .before .before .before .before .before .before .before .before .before .args .alternative) (c .before .before .before .before .before .before .before .before .before .before .before .before .before .before .before .before .before .args .choice) (length (c .before .before .before .before .before .before .before .before .before .before .before .before .before .before .before .before .before .args .matrix .now)) (length (c .before .before .before .before .before .before .before .before .before .before .before .before .before .before .before .before .before .args .parts .now)) _ hold inv f (le-ltb (c .before .before .before .before .before .before .before .before .before .before .before .before .before .before .before .before .before .args .n) 3 (c .before .before .before .if3 .left)) (sym (c .before .before .wants-exact .ensures) ∙ not-true _ (c .before .if4 .taken)) in (c .normal .ensures ∙ rw (c .before .before .before .before .new .ensures) (sym (s .0)), (untouched _ (2 * ((c .before .before .before .before .before .before .before .before .before .before .before .before .before .before .before .before .before .args .n) * (c .before .before .before .before .before .before .before .before .before .before .before .before .before .before .before .before .before .args .n))) (c .before .before .before .before .before .before .before .before .before .before .before .before .before .before .before .before .before .args .matrix .now) (s .1), untouched _ 8004 (c .before .before .before .before .before .before .before .before .before .before .before .before .before .before .before .before .before .args .parts .now) (s .1)))
+
+of-rooms-requires : tie.Need-of-rooms-requires
+of-rooms-requires c κs = search needs
+
+refused-requires-3 : tie.Need-refused-requires-3
+refused-requires-3 c κs = search needs
+
+returns-5 : tie.Need-returns-5
+returns-5 c = let q = ap passes (sym (c .before .before .before .before .before .before .before .before .before .before .before .before .before .before .of-pivots .ensures)) ∙ eq-eqb _ _ (c .before .before .before .before .before .before .before .before .before .before .before .before .if1 .left) in let hold = pivots-hold _ (ap (λ p. passes (pivotsRefusal p)) (sym (c .before .before .before .before .before .before .before .before .before .before .before .before .before .before .before .factor .ensures .0)) ∙ q) in let inv = sym (c .before .before .before .before .before .before .before .before .before .before .before .inverse-of-factor .ensures ∙ ap (λ z. inverseFrom z (c .before .before .before .before .before .before .before .before .before .before .before .before .before .before .before .before .before .before .before .before .args .k)) (c .before .before .before .before .before .before .before .before .before .before .before .before .before .before .before .factor .ensures .1 ∙ ap (λ p. factorOf (c .before .before .before .before .before .before .before .before .before .before .before .before .before .before .before .before .before .before .before .before .args .columns .now) (c .before .before .before .before .before .before .before .before .before .before .before .before .before .before .before .before .before .before .before .before .args .n) (rowsMade (c .before .before .before .before .before .before .before .before .before .before .before .before .before .before .before .before .before .before .before .before .args .k) p)) hold)) in let f = ap passes (sym (c .before .before .before .before .before .before .before .before .before .before .of-inverse .ensures)) ∙ eq-eqb _ _ (c .before .before .before .before .before .before .before .before .if2 .left) in let s = no-room (c .before .before .before .before .before .before .before .before .before .before .before .before .before .before .before .before .before .before .before .before .args .columns .now) (c .before .before .before .before .before .before .before .before .before .before .before .before .before .before .before .before .before .before .before .before .args .n) (c .before .before .before .before .before .before .before .before .before .before .before .before .before .before .before .before .before .before .before .before .args .k) (c .before .before .before .before .before .before .before .before .before .before .before .before .before .before .before .before .before .before .before .before .args .d) (c .before .before .before .before .before .before .before .before .before .before .before .before .before .before .before .before .before .before .before .before .args .alternative) (c .before .before .before .before .before .before .before .before .before .before .before .before .before .before .before .before .before .before .before .before .args .choice) (length (c .before .before .before .before .before .before .before .before .before .before .before .before .before .before .before .before .before .before .before .before .args .matrix .now)) (length (c .before .before .before .before .before .before .before .before .before .before .before .before .before .before .before .before .before .before .before .before .args .parts .now)) _ hold inv f (le-ltb (c .before .before .before .before .before .before .before .before .before .before .before .before .before .before .before .before .before .before .before .before .args .n) 3 (c .before .before .before .before .before .before .if3 .left)) (sym (c .before .before .before .before .before .wants-exact .ensures) ∙ not-false _ (c .before .before .before .before .if4 .left)) (ap passes (sym (c .before .before .before .of-rooms .ensures)) ∙ ne-eqb _ _ (c .before .if5 .taken)) in (c .refused3 .ensures ∙ ap refusedOf (c .before .before .before .of-rooms .ensures) ∙ sym (s .0), (untouched _ (2 * ((c .before .before .before .before .before .before .before .before .before .before .before .before .before .before .before .before .before .before .before .before .args .n) * (c .before .before .before .before .before .before .before .before .before .before .before .before .before .before .before .before .before .before .before .before .args .n))) (c .before .before .before .before .before .before .before .before .before .before .before .before .before .before .before .before .before .before .before .before .args .matrix .now) (s .1), untouched _ 8004 (c .before .before .before .before .before .before .before .before .before .before .before .before .before .before .before .before .before .before .before .before .args .parts .now) (s .1)))
+
+exact-requires : tie.Need-exact-requires
+exact-requires c κs = let r = rooms-fit (c .before .before .before .before .before .before .before .before .before .before .before .before .before .before .before .before .before .before .before .before .before .args .n) (length (c .before .before .before .before .before .before .before .before .before .before .before .before .before .before .before .before .before .before .before .before .before .args .matrix .now)) (length (c .before .before .before .before .before .before .before .before .before .before .before .before .before .before .before .before .before .before .before .before .before .args .parts .now)) (ap passes (sym (c .before .before .before .before .of-rooms .ensures)) ∙ eq-eqb _ _ (c .before .before .if5 .left)) in (omega arith, c .before .before .before .before .before .before .before .before .before .before .before .before .before .before .before .before .before .before .before .before .before .pre .0, c .before .before .before .before .before .before .before .before .before .before .before .before .before .before .before .before .before .before .before .before .before .pre .1, c .before .before .before .before .before .before .before .before .before .before .before .before .before .before .before .before .before .before .before .before .before .pre .2, c .before .before .before .before .before .before .before .before .before .before .before .before .before .before .before .before .before .before .before .before .before .pre .3, c .before .before .before .before .before .before .before .before .before .before .before .before .before .before .before .before .before .before .before .before .before .pre .4, r .0, r .1)
+
+mul-square : tie.Need-mul-square
+mul-square c = record { fits = lt-of-le-of-lt (square-small (c .before .before .before .before .before .before .before .before .before .before .before .before .before .before .before .before .before .before .before .before .before .before .before .before .before .before .args .n) (c .before .before .before .before .before .before .before .before .before .before .before .before .before .before .before .before .before .before .before .before .before .before .before .before .before .before .pre .0)) (lit< tt) }
+
+mul-clear : tie.Need-mul-clear
+mul-clear c = record { fits = lt-of-le-of-lt (mul-le-mul-left 2 (square-small (c .before .before .before .before .before .before .before .before .before .before .before .before .before .before .before .before .before .before .before .before .before .before .before .before .before .before .before .args .n) (c .before .before .before .before .before .before .before .before .before .before .before .before .before .before .before .before .before .before .before .before .before .before .before .before .before .before .before .pre .0))) (lit< tt) }
+
+clear-requires : tie.Need-clear-requires
+clear-requires c κs = let r = rooms-fit (c .before .before .before .before .before .before .before .before .before .before .before .before .before .before .before .before .before .before .before .before .before .before .before .before .before .before .before .args .n) (length (c .before .before .before .before .before .before .before .before .before .before .before .before .before .before .before .before .before .before .before .before .before .before .before .before .before .before .before .args .matrix .now)) (length (c .before .before .before .before .before .before .before .before .before .before .before .before .before .before .before .before .before .before .before .before .before .before .before .before .before .before .before .args .parts .now)) (ap passes (sym (c .before .before .before .before .before .before .before .before .before .before .of-rooms .ensures)) ∙ eq-eqb _ _ (c .before .before .before .before .before .before .before .before .if5 .left)) in omega (arith, r .0)
+
+clear-requires-2 : tie.Need-clear-requires-2
+clear-requires-2 c κs = let r = rooms-fit (c .before .before .before .before .before .before .before .before .before .before .before .before .before .before .before .before .before .before .before .before .before .before .before .before .before .before .before .before .before .before .before .args .n) (length (c .before .before .before .before .before .before .before .before .before .before .before .before .before .before .before .before .before .before .before .before .before .before .before .before .before .before .before .before .before .before .before .args .matrix .now)) (length (c .before .before .before .before .before .before .before .before .before .before .before .before .before .before .before .before .before .before .before .before .before .before .before .before .before .before .before .before .before .before .before .args .parts .now)) (ap passes (sym (c .before .before .before .before .before .before .before .before .before .before .before .before .before .before .of-rooms .ensures)) ∙ eq-eqb _ _ (c .before .before .before .before .before .before .before .before .before .before .before .before .if5 .left)) in omega (arith, r .1)
+
+same-length : tie.Need-same-length
+same-length c = search needs
+
+same-length-2 : tie.Need-same-length-2
+same-length-2 c = search needs
+
+returns-6 : tie.Need-returns-6
+returns-6 c = let q = ap passes (sym (c .before .before .before .before .before .before .before .before .before .before .before .before .before .before .before .before .before .before .before .before .before .before .before .before .before .before .before .before .of-pivots .ensures)) ∙ eq-eqb _ _ (c .before .before .before .before .before .before .before .before .before .before .before .before .before .before .before .before .before .before .before .before .before .before .before .before .before .before .if1 .left) in let hold = pivots-hold _ (ap (λ p. passes (pivotsRefusal p)) (sym (c .before .before .before .before .before .before .before .before .before .before .before .before .before .before .before .before .before .before .before .before .before .before .before .before .before .before .before .before .before .factor .ensures .0)) ∙ q) in let inv = sym (c .before .before .before .before .before .before .before .before .before .before .before .before .before .before .before .before .before .before .before .before .before .before .before .before .before .inverse-of-factor .ensures ∙ ap (λ z. inverseFrom z (c .before .before .before .before .before .before .before .before .before .before .before .before .before .before .before .before .before .before .before .before .before .before .before .before .before .before .before .before .before .before .before .before .before .before .args .k)) (c .before .before .before .before .before .before .before .before .before .before .before .before .before .before .before .before .before .before .before .before .before .before .before .before .before .before .before .before .before .factor .ensures .1 ∙ ap (λ p. factorOf (c .before .before .before .before .before .before .before .before .before .before .before .before .before .before .before .before .before .before .before .before .before .before .before .before .before .before .before .before .before .before .before .before .before .before .args .columns .now) (c .before .before .before .before .before .before .before .before .before .before .before .before .before .before .before .before .before .before .before .before .before .before .before .before .before .before .before .before .before .before .before .before .before .before .args .n) (rowsMade (c .before .before .before .before .before .before .before .before .before .before .before .before .before .before .before .before .before .before .before .before .before .before .before .before .before .before .before .before .before .before .before .before .before .before .args .k) p)) hold)) in let f = ap passes (sym (c .before .before .before .before .before .before .before .before .before .before .before .before .before .before .before .before .before .before .before .before .before .before .before .before .of-inverse .ensures)) ∙ eq-eqb _ _ (c .before .before .before .before .before .before .before .before .before .before .before .before .before .before .before .before .before .before .before .before .before .before .if2 .left) in let s = by-exact (c .before .before .before .before .before .before .before .before .before .before .before .before .before .before .before .before .before .before .before .before .before .before .before .before .before .before .before .before .before .before .before .before .before .before .args .columns .now) (c .before .before .before .before .before .before .before .before .before .before .before .before .before .before .before .before .before .before .before .before .before .before .before .before .before .before .before .before .before .before .before .before .before .before .args .n) (c .before .before .before .before .before .before .before .before .before .before .before .before .before .before .before .before .before .before .before .before .before .before .before .before .before .before .before .before .before .before .before .before .before .before .args .k) (c .before .before .before .before .before .before .before .before .before .before .before .before .before .before .before .before .before .before .before .before .before .before .before .before .before .before .before .before .before .before .before .before .before .before .args .d) (c .before .before .before .before .before .before .before .before .before .before .before .before .before .before .before .before .before .before .before .before .before .before .before .before .before .before .before .before .before .before .before .before .before .before .args .alternative) (c .before .before .before .before .before .before .before .before .before .before .before .before .before .before .before .before .before .before .before .before .before .before .before .before .before .before .before .before .before .before .before .before .before .before .args .choice) (length (c .before .before .before .before .before .before .before .before .before .before .before .before .before .before .before .before .before .before .before .before .before .before .before .before .before .before .before .before .before .before .before .before .before .before .args .matrix .now)) (length (c .before .before .before .before .before .before .before .before .before .before .before .before .before .before .before .before .before .before .before .before .before .before .before .before .before .before .before .before .before .before .before .before .before .before .args .parts .now)) _ hold inv f (le-ltb (c .before .before .before .before .before .before .before .before .before .before .before .before .before .before .before .before .before .before .before .before .before .before .before .before .before .before .before .before .before .before .before .before .before .before .args .n) 3 (c .before .before .before .before .before .before .before .before .before .before .before .before .before .before .before .before .before .before .before .before .if3 .left)) (sym (c .before .before .before .before .before .before .before .before .before .before .before .before .before .before .before .before .before .before .before .wants-exact .ensures) ∙ not-false _ (c .before .before .before .before .before .before .before .before .before .before .before .before .before .before .before .before .before .before .if4 .left)) (ap passes (sym (c .before .before .before .before .before .before .before .before .before .before .before .before .before .before .before .before .before .of-rooms .ensures)) ∙ eq-eqb _ _ (c .before .before .before .before .before .before .before .before .before .before .before .before .before .before .before .if5 .left)) in (c .before .before .before .before .before .before .before .before .before .before .before .before .exact .ensures .0 ∙ sym (s .0), (wiped _ (2 * (c .before .before .before .before .before .before .before .before .before .before .before .before .before .before .before .before .before .before .before .before .before .before .before .before .before .before .before .before .before .before .before .before .before .before .args .n * c .before .before .before .before .before .before .before .before .before .before .before .before .before .before .before .before .before .before .before .before .before .before .before .before .before .before .before .before .before .before .before .before .before .before .args .n)) (c .before .before .before .before .before .before .before .before .before .before .before .before .before .before .before .before .before .before .before .before .before .before .before .before .before .before .before .before .before .before .before .before .before .before .args .matrix .now) (c .before .before .before .before .before .before .before .before .before .before .before .before .exact .last .1 .1 .1 .1 .1 .1 .0) _ (s .1) (c .before .before .before .before .before .before .clear .ensures) (c .before .before .before .before .before .before .before .before .before .before .before .before .exact .ensures .1 .0), wiped _ 8004 (c .before .before .before .before .before .before .before .before .before .before .before .before .before .before .before .before .before .before .before .before .before .before .before .before .before .before .before .before .before .before .before .before .before .before .args .parts .now) (c .before .before .before .before .before .before .before .before .before .before .before .before .exact .last .1 .1 .1 .1 .1 .1 .1 .0) _ (s .1) (c .before .before .clear2 .ensures) (c .before .before .before .before .before .before .before .before .before .before .before .before .exact .ensures .1 .1)))
+
+pub test-design-spec : {M : Type 1} → statement M
+test-design-spec =
+    tie.close
+    (tie.spec
+    factor-requires
+    of-pivots-requires
+    refused-requires
+    returns
+    inverse-of-factor-requires
+    of-inverse-requires
+    refused-requires-2
+    returns-2
+    new-requires
+    accepted-requires
+    returns-3
+    wants-exact-requires
+    normal-requires
+    returns-4
+    of-rooms-requires
+    refused-requires-3
+    returns-5
+    exact-requires
+    mul-square
+    mul-clear
+    clear-requires
+    clear-requires-2
+    same-length
+    same-length-2
+    returns-6)

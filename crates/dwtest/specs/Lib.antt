@@ -1,0 +1,4 @@
+pub mod Refusals
+pub mod Result
+pub mod Paths
+pub mod Test
