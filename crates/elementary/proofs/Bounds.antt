@@ -73,7 +73,7 @@ nan-minus : (m : Float) → nan ⊖ m ≡ nan
 unfolding sub add
 nan-minus m = refl
 
-over-nan : (d : Float) → d ⊘ nan ≡ nan
+pub over-nan : (d : Float) → d ⊘ nan ≡ nan
 unfolding div
 over-nan nan = refl
 over-nan (inf s) = refl
@@ -95,7 +95,7 @@ standard-nan nan v x h = rw (minus-nan x) (nan-over (sqrtOf v))
 standard-nan (inf s) v x h = point-nan (inf s) v x h
 standard-nan (fin s m e) v x h = point-nan (fin s m e) v x h
 
-tail-nan : tailBeyond nan ≡ nan
+pub tail-nan : tailBeyond nan ≡ nan
 unfolding ne
 tail-nan = refl
 

@@ -20,34 +20,34 @@ abbrev largest : Float
 largest = float 0x7fefffffffffffff
 
 -- The last two: 709.782712893384 is the last whose power is finite, -745.1332191019412 the last whose power is not 0.
-exp-edges : (expOf nan ≡ nan) × (expOf (inf false) ≡ inf false) × (expOf (inf true) ≡ plusZero) × (expOf plusZero ≡ one) × (expOf minusZero ≡ one)
+pub exp-edges : (expOf nan ≡ nan) × (expOf (inf false) ≡ inf false) × (expOf (inf true) ≡ plusZero) × (expOf plusZero ≡ one) × (expOf minusZero ≡ one)
     × (expOf one ≡ float 0x4005bf0a8b145769) × (expOf largest ≡ inf false) × (expOf (neg largest) ≡ plusZero) × (expOf smallest ≡ one)
 unfolding expOf add sub mul div lt neg ofBits toBits
 exp-edges = (refl, refl, refl, refl, refl, refl, refl, refl, refl)
 
-exp-ends : (expOf (float 0x40862e42fefa39ef) ≡ float 0x7fefffffffffff2a) × (expOf (float 0x40862e42fefa39f0) ≡ inf false)
+pub exp-ends : (expOf (float 0x40862e42fefa39ef) ≡ float 0x7fefffffffffff2a) × (expOf (float 0x40862e42fefa39f0) ≡ inf false)
     × (expOf (float 0xc0874910d52d3051) ≡ smallest) × (expOf (float 0xc0874910d52d3052) ≡ plusZero)
 unfolding expOf add sub mul div lt neg ofBits toBits
 exp-ends = (refl, refl, refl, refl)
 
-ln-edges : (lnOf nan ≡ nan) × (lnOf (inf false) ≡ inf false) × (lnOf (inf true) ≡ nan) × (lnOf plusZero ≡ inf true) × (lnOf minusZero ≡ inf true)
+pub ln-edges : (lnOf nan ≡ nan) × (lnOf (inf false) ≡ inf false) × (lnOf (inf true) ≡ nan) × (lnOf plusZero ≡ inf true) × (lnOf minusZero ≡ inf true)
     × (lnOf (neg one) ≡ nan) × (lnOf (neg smallest) ≡ nan) × (lnOf one ≡ plusZero) × (lnOf smallest ≡ float 0xc0874385446d71c3) × (lnOf largest ≡ float 0x40862e42fefa39ef)
 unfolding lnOf add sub mul div lt le eq neg ofBits toBits ofInt
 ln-edges = (refl, refl, refl, refl, refl, refl, refl, refl, refl, refl)
 
-ln1p-edges : (ln1pOf nan ≡ nan) × (ln1pOf (inf false) ≡ inf false) × (ln1pOf (inf true) ≡ nan) × (ln1pOf plusZero ≡ plusZero) × (ln1pOf minusZero ≡ minusZero)
+pub ln1p-edges : (ln1pOf nan ≡ nan) × (ln1pOf (inf false) ≡ inf false) × (ln1pOf (inf true) ≡ nan) × (ln1pOf plusZero ≡ plusZero) × (ln1pOf minusZero ≡ minusZero)
     × (ln1pOf (neg one) ≡ inf true) × (ln1pOf (neg two) ≡ nan) × (ln1pOf smallest ≡ smallest) × (ln1pOf one ≡ float 0x3fe62e42fefa39ef) × (ln1pOf largest ≡ float 0x40862e42fefa39ef)
 unfolding ln1pOf add sub mul div lt le eq neg ofBits toBits ofInt
 ln1p-edges = (refl, refl, refl, refl, refl, refl, refl, refl, refl, refl)
 
 -- pi/2 and pi/4
-atan-edges : (atanOf nan ≡ nan) × (atanOf (inf false) ≡ float 0x3ff921fb54442d18) × (atanOf (inf true) ≡ float 0xbff921fb54442d18) × (atanOf plusZero ≡ plusZero)
+pub atan-edges : (atanOf nan ≡ nan) × (atanOf (inf false) ≡ float 0x3ff921fb54442d18) × (atanOf (inf true) ≡ float 0xbff921fb54442d18) × (atanOf plusZero ≡ plusZero)
     × (atanOf minusZero ≡ minusZero) × (atanOf one ≡ float 0x3fe921fb54442d18) × (atanOf smallest ≡ smallest) × (atanOf (neg smallest) ≡ neg smallest) × (atanOf largest ≡ float 0x3ff921fb54442d18)
 unfolding atanOf add sub mul div lt neg ofBits
 atan-edges = (refl, refl, refl, refl, refl, refl, refl, refl, refl)
 
 -- The sine of pi/2 rounded is 1. 1647099 is the last with a value.
-sin-edges : (sinOf nan ≡ nan) × (sinOf (inf false) ≡ nan) × (sinOf (inf true) ≡ nan) × (sinOf plusZero ≡ plusZero) × (sinOf minusZero ≡ minusZero) × (sinOf smallest ≡ smallest)
+pub sin-edges : (sinOf nan ≡ nan) × (sinOf (inf false) ≡ nan) × (sinOf (inf true) ≡ nan) × (sinOf plusZero ≡ plusZero) × (sinOf minusZero ≡ minusZero) × (sinOf smallest ≡ smallest)
     × (sinOf (float 0x3ff921fb54442d18) ≡ one) × (sinOf (float 0x413921fb00000001) ≡ nan) × (sinOf (float 0xc13921fb00000001) ≡ nan)
 unfolding sinOf add sub mul div lt neg ofBits toBits
 sin-edges = (refl, refl, refl, refl, refl, refl, refl, refl, refl)
@@ -56,7 +56,7 @@ sin-edges = (refl, refl, refl, refl, refl, refl, refl, refl, refl)
 abbrev about : Float → NormalLaw
 about v = record { mean = plusZero; variance = v }
 
-tail-edges : (upperTail (about one) plusZero ≡ half) × (lowerTail (about one) plusZero ≡ half) × (upperTail (about one) (inf false) ≡ plusZero) × (lowerTail (about one) (inf false) ≡ one)
+pub tail-edges : (upperTail (about one) plusZero ≡ half) × (lowerTail (about one) plusZero ≡ half) × (upperTail (about one) (inf false) ≡ plusZero) × (lowerTail (about one) (inf false) ≡ one)
     × (upperTail (about one) (inf true) ≡ one) × (lowerTail (about one) (inf true) ≡ plusZero) × (upperTail (about plusZero) one ≡ plusZero) × (lowerTail (about plusZero) one ≡ one)
     × (upperTail (about plusZero) plusZero ≡ nan) × (upperTail (about (neg one)) one ≡ nan) × (upperTail (about (inf false)) one ≡ half)
 unfolding upperTail lowerTail halfTail expOf sqrtOf add sub mul div lt ne neg ofBits toBits

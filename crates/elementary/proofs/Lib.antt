@@ -4,4 +4,5 @@ pub mod Small
 pub mod RootPositive
 pub mod Bounds
 pub mod Edges
+pub mod Beyond
 pub mod Outcomes
