@@ -75,9 +75,12 @@ def main():
     data = b''.join(call(*case[1:]) for case in cases())
     data += struct.pack('<QQQQd', 3000, 1, 3000, GREATER, 2.0)   # more numbers than any sheet has: the program stops
     part = sys.argv[1] + '.part'
-    with open(part, 'wb') as out:
-        out.write(data)
-    os.rename(part, sys.argv[1])
+    try:
+        with open(part, 'wb') as out:
+            out.write(data)
+        os.rename(part, sys.argv[1])
+    except OSError as why:
+        raise SystemExit('cases.py: %s: %s' % (why.filename, why.strerror))
 
 
 if __name__ == '__main__':

@@ -23,7 +23,10 @@ BY_RESIDUALS = (5, 6, 7, 8, 9)   # the statistic's refusals: try_design is asked
 
 
 def ask(command, data=None):
-    done = subprocess.run(command, input=data, stdout=subprocess.PIPE)
+    try:
+        done = subprocess.run(command, input=data, stdout=subprocess.PIPE)
+    except OSError as why:
+        raise SystemExit('compare.py: %s can not be run: %s' % (command[0], why.strerror))
     if done.returncode != 0:
         raise SystemExit('compare.py: %s ended with status %d' % (command[0], done.returncode))
     return done.stdout
@@ -143,7 +146,9 @@ def main():
             number, place = want['refusal']
             counts['refusal %s' % number + (', place %s' % place if number in ('2', '13') else '')] += 1
         if want != port:
-            wrong.append('call %d: the oracle %s\n           the port %s' % (i, want, port))
+            for name in sorted(set(want) | set(port)):
+                if want.get(name) != port.get(name):
+                    wrong.append('call %d, %s: the oracle has %s, the port %s' % (i, name, want.get(name), port.get(name)))
     print('%s, seed %d, %d sheets%s' % (words.kind, words.seed, words.count, ', plain residuals' if words.plain else ''))
     for name in sorted(counts):
         print('  %9d  %s' % (counts[name], name))

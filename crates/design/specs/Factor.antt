@@ -61,6 +61,7 @@ factorOf x n k = turns k (λ i l. set l i (withRoot x n i (leftOf x n l i))) zer
 unfoldable pub failsAt : List Float → ℕ → ℕ → Bool
 failsAt x n i = fails x n i (leftOf x n (factorOf x n i) i)
 
+-- the answer for what a search for failing pivots found
 abbrev pub pivotsBy : Found → Pivots
 pivotsBy (At i) = Fails i
 pivotsBy Nothing = Hold

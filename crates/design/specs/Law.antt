@@ -45,25 +45,28 @@ crossOf x n k = matrix k (λ i j. sumOf n (λ t. columnAt x n i t ⊗ difference
 abbrev pub squaresOf : List Float → ℕ → ℕ → Matrix
 squaresOf x n k = matrix k (λ i j. sumOf n (λ t. differenceOf x n i t ⊗ differenceOf x n j t))
 
--- the law from P = 2 (n - 1) - tr B and Q = 2 (3n - 4) - 2 tr C + tr B², where B = X'AX (X'X)^-1 and C = (AX)'(AX) (X'X)^-1:
--- mean P / (n - k), variance 2 / ((n - k) (n - k + 2)) (Q - P mean)
+-- the mean p / (n - k), where p = 2 (n - 1) - tr B
 abbrev pub meanOf : Float → ℕ → ℕ → Float
 meanOf p n k = p ⊘ (count n ⊖ count k)
 
+-- the variance 2 / ((n - k) (n - k + 2)) (q - p mean), where q = 2 (3n - 4) - 2 tr C + tr B²
 abbrev pub varianceOf : Float → Float → ℕ → ℕ → Float
 varianceOf p q n k = two ⊘ ((count n ⊖ count k) ⊗ (count n ⊖ count k ⊕ two)) ⊗ (q ⊖ p ⊗ meanOf p n k)
 
+-- the law from the traces of B, C and B²
 abbrev pub lawBy : Float → Float → Float → ℕ → ℕ → NormalLaw
 lawBy b c b² n k =
     let p = two ⊗ (count n ⊖ one) ⊖ b in
     let q = two ⊗ (three ⊗ count n ⊖ four) ⊖ two ⊗ c ⊕ b² in
     record { mean = meanOf p n k; variance = varianceOf p q n k }
 
+-- the law of the columns, whatever is taken for (X'X)^-1: B is X'AX (X'X)^-1, and C is (AX)'(AX) (X'X)^-1
 unfoldable pub lawFrom : List Float → ℕ → ℕ → Matrix → NormalLaw
 lawFrom x n k inverse =
     let b = productOf k (crossOf x n k) inverse in
     lawBy (traceOf k b) (traceOf k (productOf k (squaresOf x n k) inverse)) (traceOf k (productOf k b b)) n k
 
+-- the law of the columns
 abbrev pub lawOf : List Float → ℕ → ℕ → NormalLaw
 lawOf x n k = lawFrom x n k (inverseOf x n k)
 

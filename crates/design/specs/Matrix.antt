@@ -12,6 +12,7 @@ use Rattle.floats.specs.Words.{_⊗_, _‼_, plusZero}
 use Rattle.floats.specs.Sums.{sumOf}
 use Rattle.floats.specs.Tables.{table}
 
+-- the rows, one after another
 abbrev pub Matrix : Type 0
 Matrix = List (List Float)
 

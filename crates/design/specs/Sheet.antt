@@ -29,6 +29,7 @@ numbersBy Nothing = Sound
 abbrev pub runOf : List Float → SheetSize → Columns
 runOf x size = cond (eqb (length x) (size .columns * size .rows)) (numbersBy (firstBad x)) WrongLength
 
+-- a size that does not fit, else the run
 abbrev pub runBy : SizeAnswer → List Float → Columns
 runBy TooManyRows x = RowsOver
 runBy TooManyColumns x = ColumnsOver

@@ -5,7 +5,6 @@ use Rattle.floats.proofs.ListLaws.{row-in}
 use Rattle.design.specs.Factor.{leftTo}
 use Prim.Native.Nat.{_≤_, _-_}
 use native.Mathlib.Omega.{arith}
-use native.Mathlib.Nat.{le-antisymm}
 use mathlib.Core.Path.{_≡_, refl, sym}
 use borrow.Author.Needs.{needs}
 use Rattle.design.proofs.cholesky.left_of.Statement.{statement}
@@ -31,7 +30,7 @@ loop-again c =
     (omega arith, rw (c .before .before .before .before .column-products .ensures, c .before .products .ensures, w .inv .1) (sym (left-more (a .columns .now) (a .n) (a .l .now) (a .i) (w .j))))
 
 returns : tie.Need-returns Inv-loop μ-loop
-returns c = cc (le-antisymm (c .before .loop .inv .0) (c .loop-test .left))
+returns c = let h : c .before .loop .j ≡ c .before .before .before .args .i = omega arith in rw (c .before .loop .inv .1, h)
 
 pub left-of-spec : {M : Type 1} → statement M
 left-of-spec =

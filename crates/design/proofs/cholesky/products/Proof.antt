@@ -4,7 +4,6 @@ use lib.Ieee.{neg, ofBits}
 use Prim.Native.Nat.{_≤_, _-_}
 use native.Mathlib.Omega.{arith}
 use native.Mathlib.Numerals.{add-one}
-use native.Mathlib.Nat.{le-antisymm}
 use mathlib.Core.Path.{_≡_, refl}
 use borrow.Author.Needs.{needs}
 use Rattle.design.proofs.cholesky.products.Statement.{statement}
@@ -22,10 +21,10 @@ loop-holds c = (omega arith, refl)
 
 loop-again : tie.Need-loop-again Inv-loop μ-loop
 unfolding sumOf
-loop-again c = (omega arith, rw (add-one (c .before .before .before .loop .m)) (cc))
+loop-again c = (omega arith, rw (c .before .before .before .loop .inv .1, add-one (c .before .before .before .loop .m)))
 
 returns : tie.Need-returns Inv-loop μ-loop
-returns c = cc (le-antisymm (c .before .loop .inv .0) (c .loop-test .left))
+returns c = let h : c .before .loop .m ≡ c .before .before .args .j = omega arith in rw (c .before .loop .inv .1, h)
 
 pub products-spec : {M : Type 1} → statement M
 products-spec =

@@ -2,7 +2,6 @@ use Rattle.design.specs.Inverse.{lowerInverse}
 use Rattle.design.proofs.InverseLaws.{rows-none, rows-more}
 use Prim.Native.Nat.{_≤_, _-_}
 use native.Mathlib.Omega.{arith}
-use native.Mathlib.Nat.{le-antisymm}
 use mathlib.Core.Path.{_≡_, sym}
 use borrow.Author.Needs.{needs}
 use Rattle.design.proofs.lower.lower_inverse.Statement.{statement}
@@ -18,7 +17,7 @@ loop-again : tie.Need-loop-again Inv-loop μ-loop
 loop-again c = (omega arith, rw (c .lower-row .ensures, c .before .before .before .loop .inv .1) (sym (rows-more (c .before .before .before .before .args .l .now) (c .before .before .before .loop .i))))
 
 returns : tie.Need-returns Inv-loop μ-loop
-returns c = cc (le-antisymm (c .before .loop .inv .0) (c .loop-test .left))
+returns c = let h : c .before .loop .i ≡ c .before .before .args .k = omega arith in rw (c .before .loop .inv .1, h)
 
 pub lower-inverse-spec : {M : Type 1} → statement M
 lower-inverse-spec =

@@ -22,7 +22,7 @@ loop-holds c = (omega arith, refl, refl)
 
 loop-again : tie.Need-loop-again Inv-loop μ-loop
 unfolding sumOf
-loop-again c = (omega arith, search needs, rw (add-one (c .before .before .before .loop .m)) (cc))
+loop-again c = (omega arith, search needs, rw (c .before .before .before .loop .inv .2, add-one (c .before .before .before .loop .m)))
 
 returns : tie.Need-returns Inv-loop μ-loop
 returns c = let h : c .before .loop .m ≡ c .before .before .before .args .k - c .before .before .larger .result = omega arith in rw (← c .before .before .larger .ensures, ← h) (c .before .loop .inv .2)
