@@ -149,6 +149,6 @@ pub fn mam(room: &mut [f64], x: &[f64], inv: [[f64; 8]; 8], n: usize, k: usize) 
     let mut u = [0.0f64; 256];
     let mut w = [0.0f64; 256];
     fill_room(room, &mut u[..n], &mut w[..n], x, &inv, n, k);
-    let half = n * n;
-    floats::search::first_bad(&room[..half])
+    let searched = n * n;
+    floats::search::first_bad(&room[..searched])
 }

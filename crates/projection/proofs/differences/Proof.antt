@@ -1,33 +1,14 @@
-use native.Mathlib.Omega.{arith}
+-- Where the ways of the first test meet, the row before has been dealt with; the second test deals with the row after. Assumes nothing.
 use lib.ListN.{length}
 use Rattle.floats.proofs.TableLaws.{length-table}
 use Rattle.floats.specs.Words.{plusZero}
 use Rattle.floats.specs.Tables.{table}
 use mathlib.Core.Logic.{⊎-elim}
-use mathlib.Core.Path.{_≡_, refl, ap, sym, _∙_}
+use mathlib.Core.Path.{_≡_, ap, sym, _∙_}
 use Rattle.projection.proofs.ProjectionLaws.{behind, behind-first, behind-later, ahead-last, ahead-earlier}
 use borrow.Author.Needs.{needs}
 use Rattle.projection.proofs.differences.Statement.{statement}
 use Rattle.projection.proofs.differences.Tie as tie
-use Rattle.projection.proofs.differences.Reads as reads
-use Rattle.projection.proofs.differences.Lts as lts
-use Rattle.projection.proofs.add_row_difference.Reads as add-row-difference-reads
-use Rattle.projection.proofs.rows.fill.Reads as fill-reads
-
-fill-requires : tie.Need-fill-requires
-fill-requires c κs = search needs
-
-sub-add-row-difference : tie.Need-sub-add-row-difference
-sub-add-row-difference c = search needs
-
-add-row-difference-requires : tie.Need-add-row-difference-requires
-add-row-difference-requires c κs = search needs
-
-add-if2 : tie.Need-add-if2
-add-if2 c = search needs
-
-add-add-row-difference : tie.Need-add-add-row-difference
-add-add-row-difference c = search needs
 
 met : (c : tie.Joined1) → c .if1 .w ≡ table (behind (c .before .before .before .before .before .before .before .args .n) (c .before .before .before .before .before .before .before .args .t) (c .before .before .before .before .before .before .before .args .m .now)) (c .before .before .before .before .before .before .before .args .n)
 met c =
@@ -46,20 +27,9 @@ returns c = c .before .before .add-row-difference2 .ensures ∙ ahead-earlier _ 
 same-length-2 : tie.Need-same-length-2
 same-length-2 c = ap length (met (c .before)) ∙ length-table _ _ ∙ sym (c .before .before .before .before .before .before .before .before .pre .0)
 
-returns-2 : tie.Need-returns-2
-returns-2 c = met (c .before) ∙ ahead-last _ _ _ (c .if2 .left)
-
 pub differences-spec : {M : Type 1} → statement M
 differences-spec =
     tie.close
-    (tie.spec
-    fill-requires
-    sub-add-row-difference
-    add-row-difference-requires
-    add-if2
-    add-add-row-difference
-    add-row-difference-requires-2
-    same-length
-    returns
-    same-length-2
-    returns-2)
+    (tie.spec (λ c κs. search needs) (λ c. search needs) (λ c κs. search needs) (λ c. search needs)
+    (λ c. search needs) add-row-difference-requires-2 same-length returns same-length-2
+    (λ c. met (c .before) ∙ ahead-last _ _ _ (c .if2 .left)))

@@ -1,35 +1,12 @@
+-- The four steps one after another: X (X'X)^-1 X', its opposite, 1 added along the diagonal, the mirror. Assumes nothing.
 use Rattle.projection.specs.Projection.{hat}
 use Rattle.projection.proofs.LayerLaws.{sums}
-use mathlib.Core.Path.{_≡_, refl, ap, sym, _∙_}
+use mathlib.Core.Path.{_∙_}
 use Rattle.projection.proofs.MirrorLaws.{identified}
 use Rattle.projection.proofs.ProjectionLaws.{hatTo, residual-of}
 use borrow.Author.Needs.{needs}
 use Rattle.projection.proofs.residual_maker.Statement.{statement}
 use Rattle.projection.proofs.residual_maker.Tie as tie
-use Rattle.projection.proofs.residual_maker.Reads as reads
-use Rattle.projection.proofs.residual_maker.Lts as lts
-use Rattle.projection.proofs.hat.Reads as hat-reads
-use Rattle.projection.proofs.matrix.add_identity.Reads as add-identity-reads
-use Rattle.projection.proofs.matrix.mirror.Reads as mirror-reads
-use Rattle.projection.proofs.rows.negate.Reads as negate-reads
-
-hat-requires : tie.Need-hat-requires
-hat-requires c κs = search needs
-
-negate-requires : tie.Need-negate-requires
-negate-requires c κs = search needs
-
-add-identity-requires : tie.Need-add-identity-requires
-add-identity-requires c κs = search needs
-
-mirror-requires : tie.Need-mirror-requires
-mirror-requires c κs = search needs
-
-same-length : tie.Need-same-length
-same-length c = search needs
-
-same-length-2 : tie.Need-same-length-2
-same-length-2 c = search needs
 
 returns : tie.Need-returns
 unfolding identified hat hatTo sums
@@ -38,11 +15,5 @@ returns c = c .before .before .mirror .ensures ∙ residual-of (c .before .befor
 pub residual-maker-spec : {M : Type 1} → statement M
 residual-maker-spec =
     tie.close
-    (tie.spec
-    hat-requires
-    negate-requires
-    add-identity-requires
-    mirror-requires
-    same-length
-    same-length-2
-    returns)
+    (tie.spec (λ c κs. search needs) (λ c κs. search needs) (λ c κs. search needs) (λ c κs. search needs)
+    (λ c. search needs) (λ c. search needs) returns)
