@@ -1,0 +1,3 @@
+pub mod Sizes
+pub mod Fronts
+pub mod Order
