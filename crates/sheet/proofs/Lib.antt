@@ -1,3 +1,4 @@
 pub mod Sizes
 pub mod Fronts
 pub mod Order
+pub mod DigitLaws

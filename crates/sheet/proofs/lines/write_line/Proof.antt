@@ -1,0 +1,102 @@
+use borrow.Author.Tests.{lt-ltb, le-ltb}
+use mathlib.Core.Path.{_≡_, refl, ap, _∙_}
+use Prim.Native.Nat.{ℕ}
+use mathlib.Core.List.{List, [], _∷_, _++_, append-assoc}
+use lib.ListN.{length, drop}
+use native.Mathlib.Omega.{arith}
+use Rattle.sheet.specs.Lines.{decimalOf, hexOf, joined, lineOf}
+use Rattle.sheet.proofs.Fronts.{front-none, front-more, _⊳_}
+use borrow.Author.Needs.{needs}
+use Rattle.sheet.proofs.lines.write_line.Statement.{statement}
+use Rattle.sheet.proofs.lines.write_line.Tie as tie
+use Rattle.sheet.proofs.lines.write_line.Reads as reads
+use Rattle.sheet.proofs.lines.write_line.Lts as lts
+use Rattle.sheet.proofs.lines.put_decimal.Reads as put-decimal-reads
+use Rattle.sheet.proofs.lines.put_hex.Reads as put-hex-reads
+
+flat : (a b c d e f g h i j k m : List ℕ) → ([] ⊳ a ⊳ b ⊳ c ⊳ d ⊳ e ⊳ f ⊳ g ⊳ h ⊳ i ⊳ j ⊳ k) ++ (m ++ (10 ∷ [])) ≡ joined a (b ∷ c ∷ d ∷ e ∷ f ∷ g ∷ h ∷ i ∷ j ∷ k ∷ m ∷ [])
+unfolding joined
+flat a b c d e f g h i j k m = simp append-assoc
+
+returns : tie.Need-returns
+returns c = rw (lt-ltb _ _ (c .if1 .taken)) (refl, refl)
+
+put-decimal-requires : tie.Need-put-decimal-requires
+put-decimal-requires c κs = search needs
+
+put-decimal-requires-2 : tie.Need-put-decimal-requires-2
+put-decimal-requires-2 c κs = search needs
+
+put-decimal-requires-3 : tie.Need-put-decimal-requires-3
+put-decimal-requires-3 c κs = search needs
+
+put-hex-requires : tie.Need-put-hex-requires
+put-hex-requires c κs = search needs
+
+put-hex-requires-2 : tie.Need-put-hex-requires-2
+put-hex-requires-2 c κs = search needs
+
+put-decimal-requires-4 : tie.Need-put-decimal-requires-4
+put-decimal-requires-4 c κs = search needs
+
+put-decimal-requires-5 : tie.Need-put-decimal-requires-5
+put-decimal-requires-5 c κs = search needs
+
+put-decimal-requires-6 : tie.Need-put-decimal-requires-6
+put-decimal-requires-6 c κs = search needs
+
+put-decimal-requires-7 : tie.Need-put-decimal-requires-7
+put-decimal-requires-7 c κs = omega (arith, c .before .before .before .before .before .before .before .before .before .before .before .before .before .before .before .before .before .before .before .before .before .before .before .before .before .before .before .before .before .before .before .before .before .if1, c .before .before .before .before .before .before .before .before .before .before .before .before .before .before .before .before .before .before .before .before .before .before .before .before .before .before .before .before .before .before .before .put-decimal .kept .0, c .before .before .before .before .before .before .before .before .before .before .before .before .before .before .before .before .before .before .before .before .before .before .before .before .before .before .before .before .before .before .before .put-decimal .ensures .1, c .before .before .before .before .before .before .before .before .before .before .before .before .before .before .before .before .before .before .before .before .before .before .before .before .before .before .before .put-decimal2 .kept .0, c .before .before .before .before .before .before .before .before .before .before .before .before .before .before .before .before .before .before .before .before .before .before .before .before .before .before .before .put-decimal2 .ensures .1, c .before .before .before .before .before .before .before .before .before .before .before .before .before .before .before .before .before .before .before .before .before .before .before .put-decimal3 .kept .0, c .before .before .before .before .before .before .before .before .before .before .before .before .before .before .before .before .before .before .before .before .before .before .before .put-decimal3 .ensures .1, c .before .before .before .before .before .before .before .before .before .before .before .before .before .before .before .before .before .before .before .put-hex .kept .0, c .before .before .before .before .before .before .before .before .before .before .before .before .before .before .before .before .before .before .before .put-hex .ensures .1, c .before .before .before .before .before .before .before .before .before .before .before .before .before .before .before .put-hex2 .kept .0, c .before .before .before .before .before .before .before .before .before .before .before .before .before .before .before .put-hex2 .ensures .1, c .before .before .before .before .before .before .before .before .before .before .before .put-decimal4 .kept .0, c .before .before .before .before .before .before .before .before .before .before .before .put-decimal4 .ensures .1, c .before .before .before .before .before .before .before .put-decimal5 .kept .0, c .before .before .before .before .before .before .before .put-decimal5 .ensures .1, c .before .before .before .put-decimal6 .kept .0, c .before .before .before .put-decimal6 .ensures .1)
+
+put-decimal-requires-8 : tie.Need-put-decimal-requires-8
+put-decimal-requires-8 c κs = omega (arith, c .before .before .before .before .before .before .before .before .before .before .before .before .before .before .before .before .before .before .before .before .before .before .before .before .before .before .before .before .before .before .before .before .before .before .before .before .before .if1, c .before .before .before .before .before .before .before .before .before .before .before .before .before .before .before .before .before .before .before .before .before .before .before .before .before .before .before .before .before .before .before .before .before .before .before .put-decimal .kept .0, c .before .before .before .before .before .before .before .before .before .before .before .before .before .before .before .before .before .before .before .before .before .before .before .before .before .before .before .before .before .before .before .before .before .before .before .put-decimal .ensures .1, c .before .before .before .before .before .before .before .before .before .before .before .before .before .before .before .before .before .before .before .before .before .before .before .before .before .before .before .before .before .before .before .put-decimal2 .kept .0, c .before .before .before .before .before .before .before .before .before .before .before .before .before .before .before .before .before .before .before .before .before .before .before .before .before .before .before .before .before .before .before .put-decimal2 .ensures .1, c .before .before .before .before .before .before .before .before .before .before .before .before .before .before .before .before .before .before .before .before .before .before .before .before .before .before .before .put-decimal3 .kept .0, c .before .before .before .before .before .before .before .before .before .before .before .before .before .before .before .before .before .before .before .before .before .before .before .before .before .before .before .put-decimal3 .ensures .1, c .before .before .before .before .before .before .before .before .before .before .before .before .before .before .before .before .before .before .before .before .before .before .before .put-hex .kept .0, c .before .before .before .before .before .before .before .before .before .before .before .before .before .before .before .before .before .before .before .before .before .before .before .put-hex .ensures .1, c .before .before .before .before .before .before .before .before .before .before .before .before .before .before .before .before .before .before .before .put-hex2 .kept .0, c .before .before .before .before .before .before .before .before .before .before .before .before .before .before .before .before .before .before .before .put-hex2 .ensures .1, c .before .before .before .before .before .before .before .before .before .before .before .before .before .before .before .put-decimal4 .kept .0, c .before .before .before .before .before .before .before .before .before .before .before .before .before .before .before .put-decimal4 .ensures .1, c .before .before .before .before .before .before .before .before .before .before .before .put-decimal5 .kept .0, c .before .before .before .before .before .before .before .before .before .before .before .put-decimal5 .ensures .1, c .before .before .before .before .before .before .before .put-decimal6 .kept .0, c .before .before .before .before .before .before .before .put-decimal6 .ensures .1, c .before .before .before .put-decimal7 .kept .0, c .before .before .before .put-decimal7 .ensures .1)
+
+put-decimal-requires-9 : tie.Need-put-decimal-requires-9
+put-decimal-requires-9 c κs = omega (arith, c .before .before .before .before .before .before .before .before .before .before .before .before .before .before .before .before .before .before .before .before .before .before .before .before .before .before .before .before .before .before .before .before .before .before .before .before .before .before .before .before .before .if1, c .before .before .before .before .before .before .before .before .before .before .before .before .before .before .before .before .before .before .before .before .before .before .before .before .before .before .before .before .before .before .before .before .before .before .before .before .before .before .before .put-decimal .kept .0, c .before .before .before .before .before .before .before .before .before .before .before .before .before .before .before .before .before .before .before .before .before .before .before .before .before .before .before .before .before .before .before .before .before .before .before .before .before .before .before .put-decimal .ensures .1, c .before .before .before .before .before .before .before .before .before .before .before .before .before .before .before .before .before .before .before .before .before .before .before .before .before .before .before .before .before .before .before .before .before .before .before .put-decimal2 .kept .0, c .before .before .before .before .before .before .before .before .before .before .before .before .before .before .before .before .before .before .before .before .before .before .before .before .before .before .before .before .before .before .before .before .before .before .before .put-decimal2 .ensures .1, c .before .before .before .before .before .before .before .before .before .before .before .before .before .before .before .before .before .before .before .before .before .before .before .before .before .before .before .before .before .before .before .put-decimal3 .kept .0, c .before .before .before .before .before .before .before .before .before .before .before .before .before .before .before .before .before .before .before .before .before .before .before .before .before .before .before .before .before .before .before .put-decimal3 .ensures .1, c .before .before .before .before .before .before .before .before .before .before .before .before .before .before .before .before .before .before .before .before .before .before .before .before .before .before .before .put-hex .kept .0, c .before .before .before .before .before .before .before .before .before .before .before .before .before .before .before .before .before .before .before .before .before .before .before .before .before .before .before .put-hex .ensures .1, c .before .before .before .before .before .before .before .before .before .before .before .before .before .before .before .before .before .before .before .before .before .before .before .put-hex2 .kept .0, c .before .before .before .before .before .before .before .before .before .before .before .before .before .before .before .before .before .before .before .before .before .before .before .put-hex2 .ensures .1, c .before .before .before .before .before .before .before .before .before .before .before .before .before .before .before .before .before .before .before .put-decimal4 .kept .0, c .before .before .before .before .before .before .before .before .before .before .before .before .before .before .before .before .before .before .before .put-decimal4 .ensures .1, c .before .before .before .before .before .before .before .before .before .before .before .before .before .before .before .put-decimal5 .kept .0, c .before .before .before .before .before .before .before .before .before .before .before .before .before .before .before .put-decimal5 .ensures .1, c .before .before .before .before .before .before .before .before .before .before .before .put-decimal6 .kept .0, c .before .before .before .before .before .before .before .before .before .before .before .put-decimal6 .ensures .1, c .before .before .before .before .before .before .before .put-decimal7 .kept .0, c .before .before .before .before .before .before .before .put-decimal7 .ensures .1, c .before .before .before .put-decimal8 .kept .0, c .before .before .before .put-decimal8 .ensures .1)
+
+put-decimal-requires-10 : tie.Need-put-decimal-requires-10
+put-decimal-requires-10 c κs = omega (arith, c .before .before .before .before .before .before .before .before .before .before .before .before .before .before .before .before .before .before .before .before .before .before .before .before .before .before .before .before .before .before .before .before .before .before .before .before .before .before .before .before .before .before .before .before .before .if1, c .before .before .before .before .before .before .before .before .before .before .before .before .before .before .before .before .before .before .before .before .before .before .before .before .before .before .before .before .before .before .before .before .before .before .before .before .before .before .before .before .before .before .before .put-decimal .kept .0, c .before .before .before .before .before .before .before .before .before .before .before .before .before .before .before .before .before .before .before .before .before .before .before .before .before .before .before .before .before .before .before .before .before .before .before .before .before .before .before .before .before .before .before .put-decimal .ensures .1, c .before .before .before .before .before .before .before .before .before .before .before .before .before .before .before .before .before .before .before .before .before .before .before .before .before .before .before .before .before .before .before .before .before .before .before .before .before .before .before .put-decimal2 .kept .0, c .before .before .before .before .before .before .before .before .before .before .before .before .before .before .before .before .before .before .before .before .before .before .before .before .before .before .before .before .before .before .before .before .before .before .before .before .before .before .before .put-decimal2 .ensures .1, c .before .before .before .before .before .before .before .before .before .before .before .before .before .before .before .before .before .before .before .before .before .before .before .before .before .before .before .before .before .before .before .before .before .before .before .put-decimal3 .kept .0, c .before .before .before .before .before .before .before .before .before .before .before .before .before .before .before .before .before .before .before .before .before .before .before .before .before .before .before .before .before .before .before .before .before .before .before .put-decimal3 .ensures .1, c .before .before .before .before .before .before .before .before .before .before .before .before .before .before .before .before .before .before .before .before .before .before .before .before .before .before .before .before .before .before .before .put-hex .kept .0, c .before .before .before .before .before .before .before .before .before .before .before .before .before .before .before .before .before .before .before .before .before .before .before .before .before .before .before .before .before .before .before .put-hex .ensures .1, c .before .before .before .before .before .before .before .before .before .before .before .before .before .before .before .before .before .before .before .before .before .before .before .before .before .before .before .put-hex2 .kept .0, c .before .before .before .before .before .before .before .before .before .before .before .before .before .before .before .before .before .before .before .before .before .before .before .before .before .before .before .put-hex2 .ensures .1, c .before .before .before .before .before .before .before .before .before .before .before .before .before .before .before .before .before .before .before .before .before .before .before .put-decimal4 .kept .0, c .before .before .before .before .before .before .before .before .before .before .before .before .before .before .before .before .before .before .before .before .before .before .before .put-decimal4 .ensures .1, c .before .before .before .before .before .before .before .before .before .before .before .before .before .before .before .before .before .before .before .put-decimal5 .kept .0, c .before .before .before .before .before .before .before .before .before .before .before .before .before .before .before .before .before .before .before .put-decimal5 .ensures .1, c .before .before .before .before .before .before .before .before .before .before .before .before .before .before .before .put-decimal6 .kept .0, c .before .before .before .before .before .before .before .before .before .before .before .before .before .before .before .put-decimal6 .ensures .1, c .before .before .before .before .before .before .before .before .before .before .before .put-decimal7 .kept .0, c .before .before .before .before .before .before .before .before .before .before .before .put-decimal7 .ensures .1, c .before .before .before .before .before .before .before .put-decimal8 .kept .0, c .before .before .before .before .before .before .before .put-decimal8 .ensures .1, c .before .before .before .put-decimal9 .kept .0, c .before .before .before .put-decimal9 .ensures .1)
+
+same-length : tie.Need-same-length
+same-length c = omega (arith, c .before .before .before .before .before .before .before .before .before .before .before .before .before .before .before .before .before .before .before .before .before .before .before .before .before .before .before .before .before .before .before .before .before .before .before .before .before .before .before .before .before .before .before .before .before .before .put-decimal .kept .0, c .before .before .before .before .before .before .before .before .before .before .before .before .before .before .before .before .before .before .before .before .before .before .before .before .before .before .before .before .before .before .before .before .before .before .before .before .before .before .before .before .before .before .put-decimal2 .kept .0, c .before .before .before .before .before .before .before .before .before .before .before .before .before .before .before .before .before .before .before .before .before .before .before .before .before .before .before .before .before .before .before .before .before .before .before .before .before .before .put-decimal3 .kept .0, c .before .before .before .before .before .before .before .before .before .before .before .before .before .before .before .before .before .before .before .before .before .before .before .before .before .before .before .before .before .before .before .before .before .before .put-hex .kept .0, c .before .before .before .before .before .before .before .before .before .before .before .before .before .before .before .before .before .before .before .before .before .before .before .before .before .before .before .before .before .before .put-hex2 .kept .0, c .before .before .before .before .before .before .before .before .before .before .before .before .before .before .before .before .before .before .before .before .before .before .before .before .before .before .put-decimal4 .kept .0, c .before .before .before .before .before .before .before .before .before .before .before .before .before .before .before .before .before .before .before .before .before .before .put-decimal5 .kept .0, c .before .before .before .before .before .before .before .before .before .before .before .before .before .before .before .before .before .before .put-decimal6 .kept .0, c .before .before .before .before .before .before .before .before .before .before .before .before .before .before .put-decimal7 .kept .0, c .before .before .before .before .before .before .before .before .before .before .put-decimal8 .kept .0, c .before .before .before .before .before .before .put-decimal9 .kept .0, c .before .before .put-decimal10 .kept .0)
+
+returns-2 : tie.Need-returns-2
+unfolding lineOf
+returns-2 c =
+    let l = c .before .before .before .before .before .before .before .before .before .before .before .before .before .before .before .before .before .before .before .before .before .before .before .before .before .before .before .before .before .before .before .before .before .before .before .before .before .before .before .before .before .before .before .before .before .before .before .before .before .before .args .out .now in
+    let f = c .before .before .before .before .before .before .before .before .before .before .before .before .before .before .before .before .before .before .before .before .before .before .before .before .before .before .before .before .before .before .before .before .before .before .before .before .before .before .before .before .before .before .before .before .before .before .before .before .before .before .args .fields in
+    let s0 = front-none l in
+    let s1 = front-more (decimalOf (f .index) ++ (32 ∷ [])) s0 (c .before .before .before .before .before .before .before .before .before .before .before .before .before .before .before .before .before .before .before .before .before .before .before .before .before .before .before .before .before .before .before .before .before .before .before .before .before .before .before .before .before .before .before .before .before .before .put-decimal .ensures .0) (c .before .before .before .before .before .before .before .before .before .before .before .before .before .before .before .before .before .before .before .before .before .before .before .before .before .before .before .before .before .before .before .before .before .before .before .before .before .before .before .before .before .before .before .before .before .before .put-decimal .ensures .2) in
+    let s2 = front-more (decimalOf (f .refusal) ++ (32 ∷ [])) s1 (c .before .before .before .before .before .before .before .before .before .before .before .before .before .before .before .before .before .before .before .before .before .before .before .before .before .before .before .before .before .before .before .before .before .before .before .before .before .before .before .before .before .before .put-decimal2 .ensures .0) (c .before .before .before .before .before .before .before .before .before .before .before .before .before .before .before .before .before .before .before .before .before .before .before .before .before .before .before .before .before .before .before .before .before .before .before .before .before .before .before .before .before .before .put-decimal2 .ensures .2) in
+    let s3 = front-more (decimalOf (f .place) ++ (32 ∷ [])) s2 (c .before .before .before .before .before .before .before .before .before .before .before .before .before .before .before .before .before .before .before .before .before .before .before .before .before .before .before .before .before .before .before .before .before .before .before .before .before .before .put-decimal3 .ensures .0) (c .before .before .before .before .before .before .before .before .before .before .before .before .before .before .before .before .before .before .before .before .before .before .before .before .before .before .before .before .before .before .before .before .before .before .before .before .before .before .put-decimal3 .ensures .2) in
+    let s4 = front-more (hexOf (f .«statistic_bits») ++ (32 ∷ [])) s3 (c .before .before .before .before .before .before .before .before .before .before .before .before .before .before .before .before .before .before .before .before .before .before .before .before .before .before .before .before .before .before .before .before .before .before .put-hex .ensures .0) (c .before .before .before .before .before .before .before .before .before .before .before .before .before .before .before .before .before .before .before .before .before .before .before .before .before .before .before .before .before .before .before .before .before .before .put-hex .ensures .2) in
+    let s5 = front-more (hexOf (f .«p_bits») ++ (32 ∷ [])) s4 (c .before .before .before .before .before .before .before .before .before .before .before .before .before .before .before .before .before .before .before .before .before .before .before .before .before .before .before .before .before .before .put-hex2 .ensures .0) (c .before .before .before .before .before .before .before .before .before .before .before .before .before .before .before .before .before .before .before .before .before .before .before .before .before .before .before .before .before .before .put-hex2 .ensures .2) in
+    let s6 = front-more (decimalOf (f .path) ++ (32 ∷ [])) s5 (c .before .before .before .before .before .before .before .before .before .before .before .before .before .before .before .before .before .before .before .before .before .before .before .before .before .before .put-decimal4 .ensures .0) (c .before .before .before .before .before .before .before .before .before .before .before .before .before .before .before .before .before .before .before .before .before .before .before .before .before .before .put-decimal4 .ensures .2) in
+    let s7 = front-more (decimalOf (f .fallback) ++ (32 ∷ [])) s6 (c .before .before .before .before .before .before .before .before .before .before .before .before .before .before .before .before .before .before .before .before .before .before .put-decimal5 .ensures .0) (c .before .before .before .before .before .before .before .before .before .before .before .before .before .before .before .before .before .before .before .before .before .before .put-decimal5 .ensures .2) in
+    let s8 = front-more (decimalOf (f .kept) ++ (32 ∷ [])) s7 (c .before .before .before .before .before .before .before .before .before .before .before .before .before .before .before .before .before .before .put-decimal6 .ensures .0) (c .before .before .before .before .before .before .before .before .before .before .before .before .before .before .before .before .before .before .put-decimal6 .ensures .2) in
+    let s9 = front-more (decimalOf (f .sweeps) ++ (32 ∷ [])) s8 (c .before .before .before .before .before .before .before .before .before .before .before .before .before .before .put-decimal7 .ensures .0) (c .before .before .before .before .before .before .before .before .before .before .before .before .before .before .put-decimal7 .ensures .2) in
+    let s10 = front-more (decimalOf (f .bisections) ++ (32 ∷ [])) s9 (c .before .before .before .before .before .before .before .before .before .before .put-decimal8 .ensures .0) (c .before .before .before .before .before .before .before .before .before .before .put-decimal8 .ensures .2) in
+    let s11 = front-more (decimalOf (f .evaluations) ++ (32 ∷ [])) s10 (c .before .before .before .before .before .before .put-decimal9 .ensures .0) (c .before .before .before .before .before .before .put-decimal9 .ensures .2) in
+    let s12 = front-more (decimalOf (f .settled) ++ (10 ∷ [])) s11 (c .before .before .put-decimal10 .ensures .0) (c .before .before .put-decimal10 .ensures .2) in
+    let e = flat (decimalOf (f .index)) (decimalOf (f .refusal)) (decimalOf (f .place)) (hexOf (f .«statistic_bits»)) (hexOf (f .«p_bits»)) (decimalOf (f .path)) (decimalOf (f .fallback)) (decimalOf (f .kept)) (decimalOf (f .sweeps)) (decimalOf (f .bisections)) (decimalOf (f .evaluations)) (decimalOf (f .settled)) in
+    rw (le-ltb _ _ (c .before .before .before .before .before .before .before .before .before .before .before .before .before .before .before .before .before .before .before .before .before .before .before .before .before .before .before .before .before .before .before .before .before .before .before .before .before .before .before .before .before .before .before .before .before .before .before .before .if1 .left)) (s12 .ends ∙ ap length e, s12 .holds ∙ ap (λ w. w ++ drop (length w) l) e)
+
+pub write-line-spec : {M : Type 1} → statement M
+write-line-spec =
+    tie.close
+    (tie.spec
+    returns
+    put-decimal-requires
+    put-decimal-requires-2
+    put-decimal-requires-3
+    put-hex-requires
+    put-hex-requires-2
+    put-decimal-requires-4
+    put-decimal-requires-5
+    put-decimal-requires-6
+    put-decimal-requires-7
+    put-decimal-requires-8
+    put-decimal-requires-9
+    put-decimal-requires-10
+    same-length
+    returns-2)
