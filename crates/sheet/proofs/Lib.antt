@@ -2,3 +2,5 @@ pub mod Sizes
 pub mod Fronts
 pub mod Order
 pub mod DigitLaws
+pub mod Theorems
+pub mod Examples

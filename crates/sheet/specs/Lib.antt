@@ -1,3 +1,4 @@
 pub mod Contents
 pub mod Reading
 pub mod Lines
+pub mod Tiling
