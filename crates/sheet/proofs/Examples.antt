@@ -112,3 +112,11 @@ whole-lines = refl
 pub refusal-lines : map fileLineOf (Size ∷ Codes 63 ∷ LeftOver ∷ []) ≡ map text ("file 1 0\n" ∷ "file 4 63\n" ∷ "file 7 0\n" ∷ [])
 unfolding fileLineOf joined digits widthTo text
 refusal-lines = refl
+
+-- the longest line
+abbrev largest : ℕ
+largest = 0xffffffffffffffff
+
+pub longest-line : length (lineOf (record { index = largest; refusal = largest; place = largest; «statistic_bits» = largest; «p_bits» = largest; path = largest; fallback = largest; kept = largest; sweeps = largest; bisections = largest; evaluations = largest; settled = largest })) ≡ 244
+unfolding lineOf joined digits widthTo
+longest-line = refl

@@ -4,3 +4,4 @@ pub mod Order
 pub mod DigitLaws
 pub mod Theorems
 pub mod Examples
+pub mod OneOutcome
