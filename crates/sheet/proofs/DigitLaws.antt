@@ -9,7 +9,9 @@ use lib.Arith.{mod-mul}
 use lib.Dec.{ltb, lit<, lit≤}
 use lib.ListN.{length, length-append}
 use borrow.Author.Tests.{lt-ltb, le-ltb, ltb-true, ltb-false}
-use Rattle.sheet.specs.Lines.{digitOf, digits, widthTo, widthOf, decimalOf, hexOf, joined, lineOf}
+use Rattle.sheet.specs.Lines.{text, digitOf, digits, widthTo, widthOf, decimalOf, hexOf, joined, lineOf, fileLineOf}
+use Rattle.sheet.specs.Reading.{numberOf, indexOf}
+use Rattle.sheet.specs.declared.file.FileRefusal.{FileRefusal}
 use Rattle.sheet.specs.declared.lines.Fields.{Fields}
 
 -- ---- how many digits
@@ -130,3 +132,7 @@ line-length f =
       width-most 19 (f .evaluations),
       width-most 19 (f .settled),
     ))
+
+pub file-line-length : (f : FileRefusal) → length (fileLineOf f) ≤ 244
+unfolding fileLineOf joined text
+file-line-length f = simp (length-append, length-digits) (omega (arith, width-most 19 (numberOf f), width-most 19 (indexOf f)))

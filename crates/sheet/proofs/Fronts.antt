@@ -9,6 +9,7 @@ use lib.ListN.{length, getD, set, take, drop, take-append-drop, length-append, l
 use lib.Seq.{drop-cons, take-suc, set-at, length-take-le, take-append-seam, drop-append-add, drop-drop}
 use Rattle.floats.specs.Tables.{table}
 use Rattle.floats.proofs.TableLaws.{length-table}
+use Rattle.sheet.specs.Contents.{Counts}
 use Rattle.sheet.specs.Lines.{putAt}
 
 -- one entry more of a table stored into the front of l; d is any default
@@ -55,6 +56,12 @@ front-more {l} {w} {out} {out'} {at} {at'} ys f e h = record {
   holds = h ∙ rw (f .holds, f .ends, take-append-seam w (drop (length w) l), drop-append-add w (drop (length w) l) (length ys), drop-drop (length ys) (length w) l, append-assoc w ys (drop (length (w ++ ys)) l), length-append w ys);
   ends = e ∙ rw (f .ends) (sym (length-append w ys));
 }
+
+-- a front counts as many bytes as it has
+pub front-counts : {l w out : List ℕ} {at : ℕ} → Front l w out at → Counts at out
+front-counts {l} {w} {out} {at} f =
+    let h : at ≤ length out = rw (f .holds, f .ends, length-append w (drop (length w) l)) (omega arith) in
+    (h, sym (length-take-le at out h))
 
 -- a word with a space behind it
 infixl 60 _⊳_

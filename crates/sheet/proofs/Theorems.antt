@@ -11,8 +11,9 @@ use mathlib.Core.List.{List, [], _∷_, _++_}
 use lib.Dec.{ltb, eqb}
 use borrow.Author.Tests.{lt-ltb, le-ltb, le-leb, eq-eqb, ne-eqb, ltb-false, eqb-true, not-false}
 use lib.Arith.{digits-lt}
-use lib.ListN.{length, getD}
-use lib.Ieee.{nan}
+use lib.ListN.{length, getD, take}
+use lib.Seq.{take-at}
+use lib.Ieee.{Float, nan}
 use Rattle.floats.specs.Words.{_‼_}
 use Rattle.floats.specs.Tables.{table}
 use Rattle.floats.proofs.TableLaws.{length-table, getD-table}
@@ -23,6 +24,7 @@ use Rattle.sheet.specs.declared.file.Entry.{Entry}
 use Rattle.sheet.specs.declared.file.FileRefusal.{FileRefusal}
 use Rattle.sheet.specs.declared.file.FileRefusal.the-variants.{Size, Count, ContentsCut, Codes, Offset, PastEnd, LeftOver}
 use Rattle.sheet.specs.declared.file.FileCheck.the-variants.{Accepted, Refused}
+use Rattle.sheet.specs.declared.file.Next.{Next}
 use Rattle.sheet.specs.declared.file.Next.the-variants.{Sheet, End}
 
 neither : {f : FileRefusal} {es : List Entry} → refused f ≡ sheets es → ⊥
@@ -197,9 +199,27 @@ body-fits file n t i l = go (entryOf file i .rows) (entryOf file i .columns) (t 
     go : (r k : ℕ) → entryOf file i .offset + 8 * (r * (k + 1)) ≤ length file → (r ≤ 8192) × (r * k ≤ 8192)
     go r k h = let m : r * (k + 1) ≡ r * k + r = rw add-one (mul-suc r k) in let b = t .most in (omega arith, omega arith)
 
+-- what a caller of `read_entry` learns of the entry that it is given: which it is, that its body lies within the file, and that the runs hold it
+pub entry-read : (file : List ℕ) (n : ℕ) → Tiled file n → (i : ℕ) → i < n → {r : Next} {e : Entry} → r ≡ nextOf file i → r ≡ Sheet e
+    → (e ≡ entryOf file i) × (bodyEnd e ≤ length file) × (e .rows ≤ 8192) × (e .rows * e .columns ≤ 8192)
+entry-read file n t i l {r} {e} p q =
+    let k : e ≡ entryOf file i = same-sheet (sym q ∙ p ∙ reads-entry file n t i l) in
+    let b = body-fits file n t i l in
+    (k, rw k (t .within i l), rw k (b .0), rw k (b .1))
+  where
+    same-sheet : {e e' : Entry} → Sheet e ≡ Sheet e' → e ≡ e'
+    same-sheet h = cc
+
 -- residual t, and row t of column c, by their places in the body
 pub residual-at : (file : List ℕ) (e : Entry) (t : ℕ) → t < e .rows → residualsOf file e ‼ t ≡ bodyNumber file e t
 residual-at file e t l = getD-table (λ t. bodyNumber file e (0 + t)) (e .rows) t nan l ∙ rw zero-add
 
 pub column-at : (file : List ℕ) (e : Entry) (c t : ℕ) → c < e .columns → t < e .rows → columnsOf file e ‼ (c * e .rows + t) ≡ bodyNumber file e (e .rows + (c * e .rows + t))
 column-at file e c t k l = getD-table (λ t. bodyNumber file e (e .rows + t)) (e .rows * e .columns) (c * e .rows + t) nan (rw (mul-comm (e .rows) (e .columns)) (digits-lt k l))
+
+-- what the fronts of the runs are that `read_residuals` and `read_columns` leave
+pub residuals-front : (file : List ℕ) (e : Entry) (rest : List Float) → take (e .rows) (residualsOf file e ++ rest) ≡ residualsOf file e
+residuals-front file e rest = take-at (residualsOf file e) rest (e .rows) (length-table (λ t. bodyNumber file e (0 + t)) (e .rows))
+
+pub columns-front : (file : List ℕ) (e : Entry) (rest : List Float) → take (e .rows * e .columns) (columnsOf file e ++ rest) ≡ columnsOf file e
+columns-front file e rest = take-at (columnsOf file e) rest (e .rows * e .columns) (length-table (λ t. bodyNumber file e (e .rows + t)) (e .rows * e .columns))

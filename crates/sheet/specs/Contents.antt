@@ -1,8 +1,9 @@
 -- What stands where in a sheet file (document 01, "The sheet program"): contents, a count and 16 bytes an entry, then the bodies.
 -- A file is the list of its bytes, each below 256; a number of k bytes is `littleEndian k file` at its place, the least byte first. Definitions only. Assumes nothing.
-use Prim.Native.Nat.{ℕ, _+_, _*_}
+use Prim.Native.Nat.{ℕ, _+_, _*_, _≤_}
+use mathlib.Core.Path.{_≡_}
 use mathlib.Core.List.{List}
-use lib.ListN.{getD}
+use lib.ListN.{length, getD, take}
 use lib.Ieee.{Float}
 use Rattle.floats.specs.Bits.{littleEndian, floatAt}
 use Rattle.floats.specs.Tables.{table}
@@ -54,3 +55,7 @@ residualsOf file e = numbersOf file e 0 (e .rows)
 
 abbrev pub columnsOf : List ℕ → Entry → List Float
 columnsOf file e = numbersOf file e (e .rows) (e .rows * e .columns)
+
+-- n counts elements at the front of l. The second part follows from the first; both are stated so that a caller's `&run[..n]` needs no proof
+abbrev pub Counts : {A : Type 0} → ℕ → List A → Type 0
+Counts n l = (n ≤ length l) × (n ≡ length (take n l))

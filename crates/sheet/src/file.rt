@@ -5,7 +5,7 @@ ghost use mathlib.Core.Path.{_≡_};
 ghost use mathlib.Core.List.{_++_};
 ghost use Prim.Native.Nat.{_+_, _*_, _<_, _≤_};
 ghost use lib.ListN.{length, drop};
-ghost use Rattle.sheet.specs.Contents.{countOf, entryPlace, entryOf, bodyEnd, bodyNumber, numbersOf, residualsOf, columnsOf, bodyCount};
+ghost use Rattle.sheet.specs.Contents.{countOf, entryPlace, entryOf, bodyEnd, bodyNumber, numbersOf, residualsOf, columnsOf, bodyCount, Counts};
 ghost use Rattle.sheet.specs.Reading.{dueAt, entryFault, refusalsFrom, firstMet, readFile, checkOf, numberOf, indexOf, nextOf};
 
 // Where one sheet's body begins, its size, and its two codes: alternative 0 greater, 1 less, 2 two-sided; choice 0 default, 1 exact,
@@ -199,19 +199,27 @@ fn read_numbers(file: &[u8], e: Entry, first: usize, count: usize, run: &mut [f6
     }
 }
 
-// Puts the residuals at the front of `run`; the rest stays.
-pub fn read_residuals(file: &[u8], e: Entry, run: &mut [f64])
+// Puts the residuals at the front of `run`, where the rest stays, and gives how many there are.
+pub fn read_residuals(file: &[u8], e: Entry, run: &mut [f64]) -> usize
     requires { ⌜ (bodyEnd e ≤ length (now file)) × (e .rows ≤ length (now run)) ⌝ }
-    ensures { λ _. ⌜ now (run .exit) ≡ residualsOf (now (file .entry)) e ++ drop (e .rows) (now (run .entry)) ⌝ }
-{
-    read_numbers(file, e, 0, e.rows as usize, run);
-}
-
-// Puts the columns at the front of `run`, column after column; the rest stays.
-pub fn read_columns(file: &[u8], e: Entry, run: &mut [f64])
-    requires { ⌜ (bodyEnd e ≤ length (now file)) × (e .rows * e .columns ≤ length (now run)) ⌝ }
-    ensures { λ _. ⌜ now (run .exit) ≡ columnsOf (now (file .entry)) e ++ drop (e .rows * e .columns) (now (run .entry)) ⌝ }
+    ensures { λ r. ⌜ r ≡ e .rows ⌝ }
+    ensures { λ r. ⌜ now (run .exit) ≡ residualsOf (now (file .entry)) e ++ drop (e .rows) (now (run .entry)) ⌝ }
+    ensures { λ r. ⌜ Counts r (now (run .exit)) ⌝ }
 {
     let rows = e.rows as usize;
-    read_numbers(file, e, rows, rows * e.columns as usize, run);
+    read_numbers(file, e, 0, rows, run);
+    rows
+}
+
+// The same for the columns, column after column.
+pub fn read_columns(file: &[u8], e: Entry, run: &mut [f64]) -> usize
+    requires { ⌜ (bodyEnd e ≤ length (now file)) × (e .rows * e .columns ≤ length (now run)) ⌝ }
+    ensures { λ r. ⌜ r ≡ e .rows * e .columns ⌝ }
+    ensures { λ r. ⌜ now (run .exit) ≡ columnsOf (now (file .entry)) e ++ drop (e .rows * e .columns) (now (run .entry)) ⌝ }
+    ensures { λ r. ⌜ Counts r (now (run .exit)) ⌝ }
+{
+    let rows = e.rows as usize;
+    let count = rows * e.columns as usize;
+    read_numbers(file, e, rows, count, run);
+    count
 }

@@ -4,6 +4,7 @@ ghost use mathlib.Core.Path.{_≡_};
 ghost use mathlib.Core.List.{List, [], _∷_, _++_};
 ghost use Prim.Native.Nat.{_+_, _*_, _<_, _≤_};
 ghost use lib.ListN.{length};
+ghost use Rattle.sheet.specs.Contents.{Counts};
 ghost use Rattle.sheet.specs.Lines.{digitOf, digits, widthOf, decimalOf, hexOf, lineOf, fileLineOf, putAt, fronted, frontLength};
 
 // The longest line: ten numbers of 20 digits, two patterns of 16, eleven spaces and the newline.
@@ -99,6 +100,7 @@ fn put_text(out: &mut [u8], at: usize, s: &[u8])
 pub fn write_line(fields: Fields, out: &mut [u8]) -> usize
     ensures { λ r. ⌜ r ≡ frontLength (lineOf fields) (now (out .entry)) ⌝ }
     ensures { λ r. ⌜ now (out .exit) ≡ fronted (lineOf fields) (now (out .entry)) ⌝ }
+    ensures { λ r. ⌜ Counts r (now (out .exit)) ⌝ }
 {
     if out.len() < LONGEST {
         return 0;
@@ -121,6 +123,7 @@ pub fn write_line(fields: Fields, out: &mut [u8]) -> usize
 pub fn write_file_refusal(refusal: FileRefusal, out: &mut [u8]) -> usize
     ensures { λ r. ⌜ r ≡ frontLength (fileLineOf refusal) (now (out .entry)) ⌝ }
     ensures { λ r. ⌜ now (out .exit) ≡ fronted (fileLineOf refusal) (now (out .entry)) ⌝ }
+    ensures { λ r. ⌜ Counts r (now (out .exit)) ⌝ }
 {
     if out.len() < LONGEST {
         return 0;

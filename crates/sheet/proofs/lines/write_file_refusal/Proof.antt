@@ -1,10 +1,11 @@
+use native.Mathlib.Omega.{arith}
 use Prim.Native.Nat.{ℕ}
 use mathlib.Core.Path.{_≡_, refl, ap, _∙_}
 use mathlib.Core.List.{List, [], _∷_, _++_, append-assoc}
 use lib.ListN.{length, drop}
 use borrow.Author.Tests.{lt-ltb, le-ltb}
 use Rattle.sheet.specs.Lines.{text, decimalOf, joined, fileLineOf}
-use Rattle.sheet.proofs.Fronts.{front-none, front-more}
+use Rattle.sheet.proofs.Fronts.{front-none, front-more, front-counts}
 use borrow.Author.Needs.{needs}
 use Rattle.sheet.proofs.lines.write_file_refusal.Statement.{statement}
 use Rattle.sheet.proofs.lines.write_file_refusal.Tie as tie
@@ -20,7 +21,7 @@ unfolding joined text
 flat a b = simp append-assoc
 
 returns : tie.Need-returns
-returns c = rw (lt-ltb _ _ (c .if1 .taken)) (refl, refl)
+returns c = rw (lt-ltb _ _ (c .if1 .taken)) (refl, (refl, (omega arith, refl)))
 
 slice-aggregate-put-text : tie.Need-slice-aggregate-put-text
 slice-aggregate-put-text c = search needs
@@ -51,7 +52,7 @@ returns-2 c =
     let s2 = front-more (decimalOf (c .before .before .before .before .before .before .before .before .number .result) ++ (32 ∷ [])) s1 (c .before .before .before .before .before .before .before .put-decimal .ensures .0) (c .before .before .before .before .before .before .before .put-decimal .ensures .2) in
     let s3 = front-more (decimalOf (c .before .before .before .index .result) ++ (10 ∷ [])) s2 (c .before .before .put-decimal2 .ensures .0) (c .before .before .put-decimal2 .ensures .2) in
     let e = flat (decimalOf (c .before .before .before .before .before .before .before .before .number .result)) (decimalOf (c .before .before .before .index .result)) in
-    rw (le-ltb _ _ (c .before .before .before .before .before .before .before .before .before .before .before .before .before .before .before .if1 .left), ← c .before .before .before .before .before .before .before .before .number .ensures, ← c .before .before .before .index .ensures) (s3 .ends ∙ ap length e, s3 .holds ∙ ap (λ w. w ++ drop (length w) l) e)
+    rw (le-ltb _ _ (c .before .before .before .before .before .before .before .before .before .before .before .before .before .before .before .if1 .left), ← c .before .before .before .before .before .before .before .before .number .ensures, ← c .before .before .before .index .ensures) (s3 .ends ∙ ap length e, (s3 .holds ∙ ap (λ w. w ++ drop (length w) l) e, front-counts s3))
 
 pub write-file-refusal-spec : {M : Type 1} → statement M
 write-file-refusal-spec =

@@ -5,7 +5,7 @@ use mathlib.Core.List.{List, [], _∷_, _++_, append-assoc}
 use lib.ListN.{length, drop}
 use native.Mathlib.Omega.{arith}
 use Rattle.sheet.specs.Lines.{decimalOf, hexOf, joined, lineOf}
-use Rattle.sheet.proofs.Fronts.{front-none, front-more, _⊳_}
+use Rattle.sheet.proofs.Fronts.{front-none, front-more, front-counts, _⊳_}
 use borrow.Author.Needs.{needs}
 use Rattle.sheet.proofs.lines.write_line.Statement.{statement}
 use Rattle.sheet.proofs.lines.write_line.Tie as tie
@@ -19,7 +19,7 @@ unfolding joined
 flat a b c d e f g h i j k m = simp append-assoc
 
 returns : tie.Need-returns
-returns c = rw (lt-ltb _ _ (c .if1 .taken)) (refl, refl)
+returns c = rw (lt-ltb _ _ (c .if1 .taken)) (refl, (refl, (omega arith, refl)))
 
 put-decimal-requires : tie.Need-put-decimal-requires
 put-decimal-requires c κs = search needs
@@ -79,7 +79,7 @@ returns-2 c =
     let s11 = front-more (decimalOf (f .evaluations) ++ (32 ∷ [])) s10 (c .before .before .before .before .before .before .put-decimal9 .ensures .0) (c .before .before .before .before .before .before .put-decimal9 .ensures .2) in
     let s12 = front-more (decimalOf (f .settled) ++ (10 ∷ [])) s11 (c .before .before .put-decimal10 .ensures .0) (c .before .before .put-decimal10 .ensures .2) in
     let e = flat (decimalOf (f .index)) (decimalOf (f .refusal)) (decimalOf (f .place)) (hexOf (f .«statistic_bits»)) (hexOf (f .«p_bits»)) (decimalOf (f .path)) (decimalOf (f .fallback)) (decimalOf (f .kept)) (decimalOf (f .sweeps)) (decimalOf (f .bisections)) (decimalOf (f .evaluations)) (decimalOf (f .settled)) in
-    rw (le-ltb _ _ (c .before .before .before .before .before .before .before .before .before .before .before .before .before .before .before .before .before .before .before .before .before .before .before .before .before .before .before .before .before .before .before .before .before .before .before .before .before .before .before .before .before .before .before .before .before .before .before .before .if1 .left)) (s12 .ends ∙ ap length e, s12 .holds ∙ ap (λ w. w ++ drop (length w) l) e)
+    rw (le-ltb _ _ (c .before .before .before .before .before .before .before .before .before .before .before .before .before .before .before .before .before .before .before .before .before .before .before .before .before .before .before .before .before .before .before .before .before .before .before .before .before .before .before .before .before .before .before .before .before .before .before .before .if1 .left)) (s12 .ends ∙ ap length e, (s12 .holds ∙ ap (λ w. w ++ drop (length w) l) e, front-counts s12))
 
 pub write-line-spec : {M : Type 1} → statement M
 write-line-spec =
