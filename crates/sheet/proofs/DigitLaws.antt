@@ -100,6 +100,7 @@ width-least (suc most) n h = go (ltb n 10) refl (λ p. width-least most (n / 10)
   where
     tens : (w : ℕ) → 1 ≤ w → 10 ^ (w - 1) ≤ n / 10 → 10 ^ (suc w - 1) ≤ n
     tens w l k = let e : suc w - 1 ≡ suc (w - 1) = omega arith in rw (e, pow-succ') (le-trans (mul-le-mul-left 10 k) (mul-div-le n 10))
+
     go : (b : Bool) → ltb n 10 ≡ b → (0 < n / 10 → 10 ^ (widthTo most (n / 10) - 1) ≤ n / 10) → 10 ^ (cond b 1 (suc (widthTo most (n / 10))) - 1) ≤ n
     go true e rest = h
     go false e rest = let l = ltb-false n 10 e in tens (widthTo most (n / 10)) (width-some most (n / 10)) (rest (omega arith))

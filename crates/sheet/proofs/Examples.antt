@@ -65,20 +65,20 @@ whole-columns = refl
 
 -- cut, lengthened, or with bytes changed; of two damages the first in the order counts
 pub damaged-read : map readFile (
-      take 3 wholeCase
-      ∷ set wholeCase 0 0
-      ∷ set wholeCase 0 65
-      ∷ take 51 wholeCase
-      ∷ set wholeCase 12 3
-      ∷ set wholeCase 29 3
-      ∷ set wholeCase 51 1
-      ∷ set wholeCase 4 53
-      ∷ set wholeCase 20 83
-      ∷ take 163 wholeCase
-      ∷ set (set (set (set wholeCase 24 255) 25 255) 26 255) 27 255
-      ∷ (wholeCase ++ (0 ∷ []))
-      ∷ set (set wholeCase 4 53) 28 3
-      ∷ [])
+    take 3 wholeCase
+    ∷ set wholeCase 0 0
+    ∷ set wholeCase 0 65
+    ∷ take 51 wholeCase
+    ∷ set wholeCase 12 3
+    ∷ set wholeCase 29 3
+    ∷ set wholeCase 51 1
+    ∷ set wholeCase 4 53
+    ∷ set wholeCase 20 83
+    ∷ take 163 wholeCase
+    ∷ set (set (set (set wholeCase 24 255) 25 255) 26 255) 27 255
+    ∷ (wholeCase ++ (0 ∷ []))
+    ∷ set (set wholeCase 4 53) 28 3
+    ∷ [])
     ≡ refused Size
     ∷ refused Count
     ∷ refused Count
@@ -102,10 +102,10 @@ fields i refusal d p path settled = record { index = i; refusal = refusal; place
 
 pub whole-lines : map lineOf (fields 0 0 0x4000000000000000 0x3ff0000000000000 1 1 ∷ fields 1 0 0x4008000000000000 0x3ff0000000000000 4 1 ∷ fields 2 6 0 0 0 0 ∷ [])
     ≡ map text (
-      "0 0 0 4000000000000000 3ff0000000000000 1 0 0 0 0 0 1\n"
-      ∷ "1 0 0 4008000000000000 3ff0000000000000 4 0 0 0 0 0 1\n"
-      ∷ "2 6 0 0000000000000000 0000000000000000 0 0 0 0 0 0 0\n"
-      ∷ [])
+    "0 0 0 4000000000000000 3ff0000000000000 1 0 0 0 0 0 1\n"
+    ∷ "1 0 0 4008000000000000 3ff0000000000000 4 0 0 0 0 0 1\n"
+    ∷ "2 6 0 0000000000000000 0000000000000000 0 0 0 0 0 0 0\n"
+    ∷ [])
 unfolding lineOf joined digits widthTo text
 whole-lines = refl
 

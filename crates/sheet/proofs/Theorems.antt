@@ -140,11 +140,16 @@ module _ (file : List ℕ) where
   unfolding meets
   none-by {n} t =
       let c = t .count in
-      let end : dueAt file (countOf file) ≡ length file = rw (← c) (due-last (t .some) ∙ t .last) in
-      (rw (le-ltb _ _ (t .least), le-ltb _ _ (t .most)),
-      (rw (← c, le-ltb _ _ (t .some), le-ltb _ _ (t .few)),
-      (rw (← c, le-ltb _ _ (t .contents)),
-      no-entry 0 (countOf file) (λ j l. let k : j < n = omega arith in (codes-by j (t .known j k), rw (eq-eqb _ _ (due-by t j k)), le-ltb _ _ (t .within j k))) (rw (eq-eqb _ _ end)))))
+      let end : dueAt file (countOf file) ≡ length file = rw (← c) (due-last (t .some) ∙ t .last) in (
+        rw (le-ltb _ _ (t .least), le-ltb _ _ (t .most)),
+        (
+          rw (← c, le-ltb _ _ (t .some), le-ltb _ _ (t .few)),
+          (
+            rw (← c, le-ltb _ _ (t .contents)),
+            no-entry 0 (countOf file) (λ j l. let k : j < n = omega arith in (codes-by j (t .known j k), rw (eq-eqb _ _ (due-by t j k)), le-ltb _ _ (t .within j k))) (rw (eq-eqb _ _ end)),
+          ),
+        ),
+      )
 
 -- `check_file` accepts a file with the count n exactly where n entries tile it
 pub accepted-tiled : (file : List ℕ) (n : ℕ) → checkOf (readFile file) ≡ Accepted n → Tiled file n

@@ -30,11 +30,7 @@ fn digit(d: u64) -> u8
     requires { ⌜ d < 16 ⌝ }
     ensures { λ r. ⌜ r ≡ digitOf d ⌝ }
 {
-    if d < 10 {
-        48 + d as u8
-    } else {
-        87 + d as u8
-    }
+    if d < 10 { 48 + d as u8 } else { 87 + d as u8 }
 }
 
 // How many decimal digits `n` has.

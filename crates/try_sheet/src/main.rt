@@ -49,20 +49,23 @@ fn print_entry(label: &[u8], file: &[u8], i: usize, e: Entry)
     let residuals = digest(&run[..n]);
     let m = sheet::file::read_columns(file, e, &mut run);
     let columns = digest(&run[..m]);
-    print_line(label, Fields {
-        index: i as u64,
-        refusal: e.alternative as u64,
-        place: e.choice as u64,
-        statistic_bits: residuals,
-        p_bits: columns,
-        path: e.rows as u64,
-        fallback: e.columns as u64,
-        kept: e.offset as u64,
-        sweeps: 0,
-        bisections: 0,
-        evaluations: 0,
-        settled: 0,
-    });
+    print_line(
+        label,
+        Fields {
+            index: i as u64,
+            refusal: e.alternative as u64,
+            place: e.choice as u64,
+            statistic_bits: residuals,
+            p_bits: columns,
+            path: e.rows as u64,
+            fallback: e.columns as u64,
+            kept: e.offset as u64,
+            sweeps: 0,
+            bisections: 0,
+            evaluations: 0,
+            settled: 0,
+        },
+    );
 }
 
 fn print_entries(label: &[u8], file: &[u8], count: usize)

@@ -1,25 +1,18 @@
-use borrow.Author.Tests.{eq-eqb, ne-eqb}
-use native.Mathlib.Nat.{sub-zero, sub-self}
+use native.Mathlib.Nat.{sub-zero}
 use Rattle.floats.proofs.ListLaws.{sub-step, sub-none}
 use Rattle.floats.proofs.TableLaws.{length-table}
 use Rattle.sheet.specs.Contents.{entryOf}
 use Rattle.sheet.specs.declared.file.FileCheck.the-variants.{Accepted}
-use Rattle.sheet.specs.Reading.{dueAt, meets, refusalsFrom, firstMet, checkOf}
+use Rattle.sheet.specs.Reading.{dueAt, refusalsFrom, firstMet, checkOf}
 use Rattle.sheet.proofs.Order.{met-decides, sound-passes, left-over-decides, end-accepts}
-use Prim.Native.Nat.{ℕ, zero, suc, _≤_, _<_, _-_, _*_, _+_}
+use Prim.Native.Nat.{_≤_, _-_}
 use native.Mathlib.Omega.{arith}
 use native.Mathlib.Numerals.{add-one}
 use native.Mathlib.Nat.{le-antisymm}
-use mathlib.Core.Path.{_≡_, refl, ap, sym, _∙_}
-use lib.ListN.{length, getD, set, length-set}
+use mathlib.Core.Path.{_≡_, ap, sym, _∙_}
 use borrow.Author.Needs.{needs}
 use Rattle.sheet.proofs.file.check_entries.Statement.{statement}
 use Rattle.sheet.proofs.file.check_entries.Tie as tie
-use Rattle.sheet.proofs.file.check_entries.Reads as reads
-use Rattle.sheet.proofs.file.check_entries.Lts as lts
-use Rattle.sheet.proofs.file.body_end.Reads as body-end-reads
-use Rattle.sheet.proofs.file.entry_at.Reads as entry-at-reads
-use Rattle.sheet.proofs.file.entry_fault.Reads as entry-fault-reads
 
 abbrev Inv-loop : tie.InvT-loop
 Inv-loop file count due₀ i₀ due i = (i ≤ count) × (due ≡ dueAt file i) × (firstMet file (refusalsFrom i (count - i)) ≡ firstMet file (refusalsFrom 0 count))
@@ -27,39 +20,12 @@ Inv-loop file count due₀ i₀ due i = (i ≤ count) × (due ≡ dueAt file i) 
 abbrev μ-loop : tie.MeasureT-loop
 μ-loop file count due₀ i₀ due i = count - i
 
-mul-due : tie.Need-mul-due Inv-loop μ-loop
-mul-due c = search needs
-
-add-due : tie.Need-add-due Inv-loop μ-loop
-add-due c = search needs
-
 loop-holds : tie.Need-loop-holds Inv-loop μ-loop
 unfolding dueAt
 loop-holds c = (omega arith, rw (c .before .pre .0), rw sub-zero)
 
-entry-fault-requires : tie.Need-entry-fault-requires Inv-loop μ-loop
-entry-fault-requires c κs = search needs
-
-enum-known-refusal : tie.Need-enum-known-refusal Inv-loop μ-loop
-enum-known-refusal c = search needs
-
 returns : tie.Need-returns Inv-loop μ-loop
 returns c = ap checkOf (sym (met-decides _ _ _ (sym (c .before .before .before .entry-fault .ensures) ∙ c .before .refusal .given .1)) ∙ rw (sub-step (c .before .before .before .before .loop-test .taken)) at (c .before .before .before .before .before .loop .inv .2))
-
-enum-told : tie.Need-enum-told Inv-loop μ-loop
-enum-told c = search needs
-
-entry-at-requires : tie.Need-entry-at-requires Inv-loop μ-loop
-entry-at-requires c κs = search needs
-
-body-end-requires : tie.Need-body-end-requires Inv-loop μ-loop
-body-end-requires c κs = search needs
-
-add-i : tie.Need-add-i Inv-loop μ-loop
-add-i c = search needs
-
-loop-less : tie.Need-loop-less Inv-loop μ-loop
-loop-less c = search needs
 
 loop-again : tie.Need-loop-again Inv-loop μ-loop
 unfolding dueAt
@@ -78,20 +44,6 @@ returns-3 c =
 pub check-entries-spec : {M : Type 1} → statement M
 check-entries-spec =
     tie.close
-    (tie.spec
-    Inv-loop
-    μ-loop
-    mul-due
-    add-due
-    loop-holds
-    entry-fault-requires
-    enum-known-refusal
-    returns
-    enum-told
-    entry-at-requires
-    body-end-requires
-    add-i
-    loop-less
-    loop-again
-    returns-2
-    returns-3)
+    (tie.spec Inv-loop μ-loop (λ c. search needs) (λ c. search needs) loop-holds (λ c κs. search needs)
+    (λ c. search needs) returns (λ c. search needs) (λ c κs. search needs) (λ c κs. search needs)
+    (λ c. search needs) (λ c. search needs) loop-again returns-2 returns-3)

@@ -3,10 +3,6 @@ use Rattle.sheet.specs.Reading.{readFile, firstMet, meets}
 use borrow.Author.Needs.{needs}
 use Rattle.sheet.proofs.file.check_file.Statement.{statement}
 use Rattle.sheet.proofs.file.check_file.Tie as tie
-use Rattle.sheet.proofs.file.check_file.Reads as reads
-use Rattle.sheet.proofs.file.check_file.Lts as lts
-use Rattle.floats.proofs.bits.little_endian.Reads as little-endian-reads
-use Rattle.sheet.proofs.file.check_entries.Reads as check-entries-reads
 
 returns : tie.Need-returns
 unfolding readFile firstMet meets
@@ -16,9 +12,6 @@ returns-2 : tie.Need-returns-2
 unfolding readFile firstMet meets
 returns-2 c = rw (le-ltb _ _ (c .before .if1 .left), lt-ltb _ _ (c .if2 .taken))
 
-little-endian-requires : tie.Need-little-endian-requires
-little-endian-requires c κs = search needs
-
 returns-3 : tie.Need-returns-3
 unfolding readFile firstMet meets
 returns-3 c = rw (le-ltb _ _ (c .before .before .before .if1 .left), le-ltb _ _ (c .before .before .if2 .left), ← c .before .little-endian .ensures, lt-ltb _ _ (c .if3 .taken))
@@ -27,18 +20,9 @@ returns-4 : tie.Need-returns-4
 unfolding readFile firstMet meets
 returns-4 c = rw (le-ltb _ _ (c .before .before .before .before .if1 .left), le-ltb _ _ (c .before .before .before .if2 .left), ← c .before .before .little-endian .ensures, le-ltb _ _ (c .before .if3 .left), lt-ltb _ _ (c .if4 .taken))
 
-mul-if5 : tie.Need-mul-if5
-mul-if5 c = search needs
-
-add-if5 : tie.Need-add-if5
-add-if5 c = search needs
-
 returns-5 : tie.Need-returns-5
 unfolding readFile firstMet meets
 returns-5 c = rw (le-ltb _ _ (c .before .before .before .before .before .if1 .left), le-ltb _ _ (c .before .before .before .before .if2 .left), ← c .before .before .before .little-endian .ensures, le-ltb _ _ (c .before .before .if3 .left), le-ltb _ _ (c .before .if4 .left), lt-ltb _ _ (c .if5 .taken))
-
-check-entries-requires : tie.Need-check-entries-requires
-check-entries-requires c κs = search needs
 
 returns-6 : tie.Need-returns-6
 unfolding readFile firstMet meets
@@ -47,14 +31,5 @@ returns-6 c = rw (le-ltb _ _ (c .before .before .before .before .before .before 
 pub check-file-spec : {M : Type 1} → statement M
 check-file-spec =
     tie.close
-    (tie.spec
-    returns
-    returns-2
-    little-endian-requires
-    returns-3
-    returns-4
-    mul-if5
-    add-if5
-    returns-5
-    check-entries-requires
-    returns-6)
+    (tie.spec returns returns-2 (λ c κs. search needs) returns-3 returns-4 (λ c. search needs)
+    (λ c. search needs) returns-5 (λ c κs. search needs) returns-6)

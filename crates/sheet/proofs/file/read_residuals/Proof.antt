@@ -4,21 +4,11 @@ use lib.Seq.{length-take-le}
 use borrow.Author.Needs.{needs}
 use Rattle.sheet.proofs.file.read_residuals.Statement.{statement}
 use Rattle.sheet.proofs.file.read_residuals.Tie as tie
-use Rattle.sheet.proofs.file.read_residuals.Reads as reads
-use Rattle.sheet.proofs.file.read_residuals.Lts as lts
-use Rattle.sheet.proofs.file.read_numbers.Reads as read-numbers-reads
-
-cast-rows : tie.Need-cast-rows
-cast-rows c = search needs
-
-read-numbers-requires : tie.Need-read-numbers-requires
-read-numbers-requires c κs = search needs
-
-same-length : tie.Need-same-length
-same-length c = search needs
 
 returns : tie.Need-returns
 returns c = (refl, (c .before .before .read-numbers .ensures, (omega arith, sym (length-take-le _ _ (omega arith)))))
 
 pub read-residuals-spec : {M : Type 1} → statement M
-read-residuals-spec = tie.close (tie.spec cast-rows read-numbers-requires same-length returns)
+read-residuals-spec =
+    tie.close
+    (tie.spec (λ c. search needs) (λ c κs. search needs) (λ c. search needs) returns)

@@ -3,18 +3,11 @@ use Rattle.sheet.proofs.DigitLaws.{length-word}
 use borrow.Author.Needs.{needs}
 use Rattle.sheet.proofs.lines.put_hex.Statement.{statement}
 use Rattle.sheet.proofs.lines.put_hex.Tie as tie
-use Rattle.sheet.proofs.lines.put_hex.Reads as reads
-use Rattle.sheet.proofs.lines.put_hex.Lts as lts
-use Rattle.sheet.proofs.lines.put_word.Reads as put-word-reads
-
-put-word-requires : tie.Need-put-word-requires
-put-word-requires c κs = search needs
-
-same-length : tie.Need-same-length
-same-length c = search needs
 
 returns : tie.Need-returns
 returns c = (omega (arith, length-word 16 16 (c .before .before .before .before .before .args .n) (c .before .before .before .before .before .args .after)), omega arith, c .before .before .put-word .ensures .1)
 
 pub put-hex-spec : {M : Type 1} → statement M
-put-hex-spec = tie.close (tie.spec put-word-requires same-length returns)
+put-hex-spec =
+    tie.close
+    (tie.spec (λ c κs. search needs) (λ c. search needs) returns)

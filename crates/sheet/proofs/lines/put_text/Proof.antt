@@ -2,17 +2,14 @@ use lib.ListN.{take}
 use lib.Seq.{take-suc, take-all, length-take-le}
 use Rattle.sheet.specs.Lines.{putAt}
 use Rattle.sheet.proofs.Fronts.{put-none, put-after}
-use Prim.Native.Nat.{ℕ, zero, suc, _≤_, _<_, _-_, _*_, _+_}
+use Prim.Native.Nat.{_≤_, _-_}
 use native.Mathlib.Omega.{arith}
 use native.Mathlib.Numerals.{add-one}
-use native.Mathlib.Nat.{le-antisymm}
-use mathlib.Core.Path.{_≡_, refl, ap, sym, _∙_}
-use lib.ListN.{length, getD, set, length-set}
+use mathlib.Core.Path.{_≡_, refl, sym, _∙_}
+use lib.ListN.{length, length-set}
 use borrow.Author.Needs.{needs}
 use Rattle.sheet.proofs.lines.put_text.Statement.{statement}
 use Rattle.sheet.proofs.lines.put_text.Tie as tie
-use Rattle.sheet.proofs.lines.put_text.Reads as reads
-use Rattle.sheet.proofs.lines.put_text.Lts as lts
 
 abbrev Inv-loop : tie.InvT-loop
 Inv-loop out₀ at s t₀ t-end out t = (t ≤ length s) × (t-end ≡ length s) × (length out ≡ length out₀) × (out ≡ putAt at (take t s) out₀)
@@ -23,26 +20,8 @@ abbrev μ-loop : tie.MeasureT-loop
 loop-holds : tie.Need-loop-holds Inv-loop μ-loop
 loop-holds c = (omega arith, refl, refl, sym (put-none (c .args .at) (c .args .out .now)))
 
-shared-slice-read-out : tie.Need-shared-slice-read-out Inv-loop μ-loop
-shared-slice-read-out c = search needs
-
-add-out : tie.Need-add-out Inv-loop μ-loop
-add-out c = search needs
-
-slice-write-out : tie.Need-slice-write-out Inv-loop μ-loop
-slice-write-out c = search needs
-
-add-t : tie.Need-add-t Inv-loop μ-loop
-add-t c = search needs
-
-loop-less : tie.Need-loop-less Inv-loop μ-loop
-loop-less c = search needs
-
 loop-again : tie.Need-loop-again Inv-loop μ-loop
 loop-again c = (omega arith, search needs, simp length-set (c .before .before .loop .inv .2), rw (c .before .before .loop .inv .3, add-one (c .before .before .loop .t), take-suc (c .before .before .before .args .s .now) (c .before .before .loop .t) 0 (omega arith)) (put-after (c .before .before .before .args .at) (c .before .before .loop .t) _ _ _ (length-take-le (c .before .before .loop .t) (c .before .before .before .args .s .now) (c .before .before .loop .inv .0)) (omega arith)))
-
-same-length : tie.Need-same-length Inv-loop μ-loop
-same-length c = search needs
 
 returns : tie.Need-returns Inv-loop μ-loop
 returns c = c .before .loop .inv .3 ∙ rw (take-all (c .before .loop .t) (c .before .before .args .s .now) (omega arith))
@@ -50,15 +29,5 @@ returns c = c .before .loop .inv .3 ∙ rw (take-all (c .before .loop .t) (c .be
 pub put-text-spec : {M : Type 1} → statement M
 put-text-spec =
     tie.close
-    (tie.spec
-    Inv-loop
-    μ-loop
-    loop-holds
-    shared-slice-read-out
-    add-out
-    slice-write-out
-    add-t
-    loop-less
-    loop-again
-    same-length
-    returns)
+    (tie.spec Inv-loop μ-loop loop-holds (λ c. search needs) (λ c. search needs) (λ c. search needs)
+    (λ c. search needs) (λ c. search needs) loop-again (λ c. search needs) returns)

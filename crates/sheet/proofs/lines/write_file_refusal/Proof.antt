@@ -9,12 +9,6 @@ use Rattle.sheet.proofs.Fronts.{front-none, front-more, front-counts}
 use borrow.Author.Needs.{needs}
 use Rattle.sheet.proofs.lines.write_file_refusal.Statement.{statement}
 use Rattle.sheet.proofs.lines.write_file_refusal.Tie as tie
-use Rattle.sheet.proofs.lines.write_file_refusal.Reads as reads
-use Rattle.sheet.proofs.lines.write_file_refusal.Lts as lts
-use Rattle.sheet.proofs.file.FileRefusal.index.Reads as index-reads
-use Rattle.sheet.proofs.file.FileRefusal.number.Reads as number-reads
-use Rattle.sheet.proofs.lines.put_decimal.Reads as put-decimal-reads
-use Rattle.sheet.proofs.lines.put_text.Reads as put-text-reads
 
 flat : (a b : List ℕ) → ((102 ∷ 105 ∷ 108 ∷ 101 ∷ 32 ∷ []) ++ (a ++ (32 ∷ []))) ++ (b ++ (10 ∷ [])) ≡ joined (text "file") (a ∷ b ∷ [])
 unfolding joined text
@@ -22,27 +16,6 @@ flat a b = simp append-assoc
 
 returns : tie.Need-returns
 returns c = rw (lt-ltb _ _ (c .if1 .taken)) (refl, (refl, (omega arith, refl)))
-
-slice-aggregate-put-text : tie.Need-slice-aggregate-put-text
-slice-aggregate-put-text c = search needs
-
-put-text-requires : tie.Need-put-text-requires
-put-text-requires c κs = search needs
-
-number-requires : tie.Need-number-requires
-number-requires c κs = search needs
-
-put-decimal-requires : tie.Need-put-decimal-requires
-put-decimal-requires c κs = search needs
-
-index-requires : tie.Need-index-requires
-index-requires c κs = search needs
-
-put-decimal-requires-2 : tie.Need-put-decimal-requires-2
-put-decimal-requires-2 c κs = search needs
-
-same-length : tie.Need-same-length
-same-length c = search needs
 
 returns-2 : tie.Need-returns-2
 unfolding fileLineOf
@@ -57,13 +30,5 @@ returns-2 c =
 pub write-file-refusal-spec : {M : Type 1} → statement M
 write-file-refusal-spec =
     tie.close
-    (tie.spec
-    returns
-    slice-aggregate-put-text
-    put-text-requires
-    number-requires
-    put-decimal-requires
-    index-requires
-    put-decimal-requires-2
-    same-length
-    returns-2)
+    (tie.spec returns (λ c. search needs) (λ c κs. search needs) (λ c κs. search needs) (λ c κs. search needs)
+    (λ c κs. search needs) (λ c κs. search needs) (λ c. search needs) returns-2)

@@ -9,10 +9,6 @@ use Rattle.sheet.proofs.Fronts.{front-none, front-more, front-counts, _
 use borrow.Author.Needs.{needs}
 use Rattle.sheet.proofs.lines.write_line.Statement.{statement}
 use Rattle.sheet.proofs.lines.write_line.Tie as tie
-use Rattle.sheet.proofs.lines.write_line.Reads as reads
-use Rattle.sheet.proofs.lines.write_line.Lts as lts
-use Rattle.sheet.proofs.lines.put_decimal.Reads as put-decimal-reads
-use Rattle.sheet.proofs.lines.put_hex.Reads as put-hex-reads
 
 flat : (a b c d e f g h i j k m : List ℕ) → ([] ⊳ a ⊳ b ⊳ c ⊳ d ⊳ e ⊳ f ⊳ g ⊳ h ⊳ i ⊳ j ⊳ k) ++ (m ++ (10 ∷ [])) ≡ joined a (b ∷ c ∷ d ∷ e ∷ f ∷ g ∷ h ∷ i ∷ j ∷ k ∷ m ∷ [])
 unfolding joined
@@ -20,30 +16,6 @@ flat a b c d e f g h i j k m = simp append-assoc
 
 returns : tie.Need-returns
 returns c = rw (lt-ltb _ _ (c .if1 .taken)) (refl, (refl, (omega arith, refl)))
-
-put-decimal-requires : tie.Need-put-decimal-requires
-put-decimal-requires c κs = search needs
-
-put-decimal-requires-2 : tie.Need-put-decimal-requires-2
-put-decimal-requires-2 c κs = search needs
-
-put-decimal-requires-3 : tie.Need-put-decimal-requires-3
-put-decimal-requires-3 c κs = search needs
-
-put-hex-requires : tie.Need-put-hex-requires
-put-hex-requires c κs = search needs
-
-put-hex-requires-2 : tie.Need-put-hex-requires-2
-put-hex-requires-2 c κs = search needs
-
-put-decimal-requires-4 : tie.Need-put-decimal-requires-4
-put-decimal-requires-4 c κs = search needs
-
-put-decimal-requires-5 : tie.Need-put-decimal-requires-5
-put-decimal-requires-5 c κs = search needs
-
-put-decimal-requires-6 : tie.Need-put-decimal-requires-6
-put-decimal-requires-6 c κs = search needs
 
 put-decimal-requires-7 : tie.Need-put-decimal-requires-7
 put-decimal-requires-7 c κs = omega (arith, c .before .before .before .before .before .before .before .before .before .before .before .before .before .before .before .before .before .before .before .before .before .before .before .before .before .before .before .before .before .before .before .before .before .if1, c .before .before .before .before .before .before .before .before .before .before .before .before .before .before .before .before .before .before .before .before .before .before .before .before .before .before .before .before .before .before .before .put-decimal .kept .0, c .before .before .before .before .before .before .before .before .before .before .before .before .before .before .before .before .before .before .before .before .before .before .before .before .before .before .before .before .before .before .before .put-decimal .ensures .1, c .before .before .before .before .before .before .before .before .before .before .before .before .before .before .before .before .before .before .before .before .before .before .before .before .before .before .before .put-decimal2 .kept .0, c .before .before .before .before .before .before .before .before .before .before .before .before .before .before .before .before .before .before .before .before .before .before .before .before .before .before .before .put-decimal2 .ensures .1, c .before .before .before .before .before .before .before .before .before .before .before .before .before .before .before .before .before .before .before .before .before .before .before .put-decimal3 .kept .0, c .before .before .before .before .before .before .before .before .before .before .before .before .before .before .before .before .before .before .before .before .before .before .before .put-decimal3 .ensures .1, c .before .before .before .before .before .before .before .before .before .before .before .before .before .before .before .before .before .before .before .put-hex .kept .0, c .before .before .before .before .before .before .before .before .before .before .before .before .before .before .before .before .before .before .before .put-hex .ensures .1, c .before .before .before .before .before .before .before .before .before .before .before .before .before .before .before .put-hex2 .kept .0, c .before .before .before .before .before .before .before .before .before .before .before .before .before .before .before .put-hex2 .ensures .1, c .before .before .before .before .before .before .before .before .before .before .before .put-decimal4 .kept .0, c .before .before .before .before .before .before .before .before .before .before .before .put-decimal4 .ensures .1, c .before .before .before .before .before .before .before .put-decimal5 .kept .0, c .before .before .before .before .before .before .before .put-decimal5 .ensures .1, c .before .before .before .put-decimal6 .kept .0, c .before .before .before .put-decimal6 .ensures .1)
@@ -84,19 +56,7 @@ returns-2 c =
 pub write-line-spec : {M : Type 1} → statement M
 write-line-spec =
     tie.close
-    (tie.spec
-    returns
-    put-decimal-requires
-    put-decimal-requires-2
-    put-decimal-requires-3
-    put-hex-requires
-    put-hex-requires-2
-    put-decimal-requires-4
-    put-decimal-requires-5
-    put-decimal-requires-6
-    put-decimal-requires-7
-    put-decimal-requires-8
-    put-decimal-requires-9
-    put-decimal-requires-10
-    same-length
-    returns-2)
+    (tie.spec returns (λ c κs. search needs) (λ c κs. search needs) (λ c κs. search needs)
+    (λ c κs. search needs) (λ c κs. search needs) (λ c κs. search needs) (λ c κs. search needs)
+    (λ c κs. search needs) put-decimal-requires-7 put-decimal-requires-8 put-decimal-requires-9
+    put-decimal-requires-10 same-length returns-2)
