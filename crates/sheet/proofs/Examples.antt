@@ -3,15 +3,13 @@ use Prim.Native.Nat.{ℕ, zero, suc, _/_, _%_}
 use mathlib.Core.Path.{_≡_, refl}
 use mathlib.Core.List.{List, [], _∷_, _++_, map}
 use lib.ListN.{length, take, set}
-use lib.Ieee.{Float}
 use Rattle.floats.specs.Words.{float}
 use Rattle.floats.specs.Bits.{littleEndian}
 use Rattle.floats.specs.Tables.{table}
 use Rattle.sheet.specs.Contents.{entryOf, residualsOf, columnsOf}
-use Rattle.sheet.specs.Reading.{Reading, sheets, refused, dueAt, meets, refusalsFrom, firstMet, readFile}
+use Rattle.sheet.specs.Reading.{sheets, refused, dueAt, meets, refusalsFrom, firstMet, readFile}
 use Rattle.sheet.specs.Lines.{text, digits, widthTo, joined, lineOf, fileLineOf}
 use Rattle.sheet.specs.declared.file.Entry.{Entry}
-use Rattle.sheet.specs.declared.file.FileRefusal.{FileRefusal}
 use Rattle.sheet.specs.declared.file.FileRefusal.the-variants.{Size, Count, ContentsCut, Codes, Offset, PastEnd, LeftOver}
 use Rattle.sheet.specs.declared.lines.Fields.{Fields}
 

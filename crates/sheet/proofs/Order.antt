@@ -1,5 +1,5 @@
 -- The refusals in their order, read entry by entry: what is wrong with an entry decides, and a sound one leaves the decision to those after it. Assumes nothing.
-use Prim.Native.Nat.{ℕ, zero, suc, _+_}
+use Prim.Native.Nat.{ℕ, suc, _+_}
 use mathlib.Core.Path.{_≡_, refl, sym}
 use mathlib.Core.Bool.{Bool, true, false, cond}
 use mathlib.Core.List.{List}
@@ -8,10 +8,9 @@ use borrow.Author.Tests.{eq-eqb, ne-eqb}
 use Rattle.floats.specs.Tables.{table}
 use Rattle.sheet.specs.Contents.{countOf, entryOf}
 use native.Mathlib.Omega.{arith}
-use Rattle.sheet.specs.Reading.{Reading, sheets, refused, dueAt, meets, refusalsFrom, firstMet, entryFault}
+use Rattle.sheet.specs.Reading.{sheets, refused, dueAt, meets, refusalsFrom, firstMet, entryFault}
 use Rattle.sheet.specs.declared.file.FileRefusal.{FileRefusal}
 use Rattle.sheet.specs.declared.file.FileRefusal.the-variants.{Codes, Offset, PastEnd, LeftOver}
-use Rattle.sheet.specs.declared.file.Fault.{Fault}
 use Rattle.sheet.specs.declared.file.Fault.the-variants.{Met, Sound}
 
 apart : {f : FileRefusal} → Sound ≡ Met f → ⊥

@@ -6,23 +6,23 @@ use native.Mathlib.Numerals.{add-one}
 use native.Mathlib.Omega.{arith}
 use mathlib.Core.Path.{_≡_, refl, sym, ap, _∙_}
 use mathlib.Core.Logic.{⊎-elim}
-use mathlib.Core.Bool.{Bool, true, false, not, cond, _||_, _&&_, true≢false, and-false}
+use mathlib.Core.Bool.{Bool, true, false, cond, _||_, true≢false}
 use mathlib.Core.List.{List, [], _∷_, _++_}
-use lib.Dec.{ltb, eqb}
-use borrow.Author.Tests.{lt-ltb, le-ltb, le-leb, eq-eqb, ne-eqb, ltb-false, eqb-true, not-false}
+use lib.Dec.{ltb}
+use borrow.Author.Tests.{lt-ltb, le-ltb, le-leb, eq-eqb, ltb-false, eqb-true, not-false}
 use lib.Arith.{digits-lt}
-use lib.ListN.{length, getD, take}
+use lib.ListN.{length, take}
 use lib.Seq.{take-at}
 use lib.Ieee.{Float, nan}
 use Rattle.floats.specs.Words.{_‼_}
 use Rattle.floats.specs.Tables.{table}
 use Rattle.floats.proofs.TableLaws.{length-table, getD-table}
-use Rattle.sheet.specs.Contents.{countOf, entryPlace, entryOf, spareOf, bodyStart, bodyEnd, bodyNumber, residualsOf, columnsOf}
+use Rattle.sheet.specs.Contents.{countOf, entryPlace, entryOf, bodyStart, bodyEnd, bodyNumber, residualsOf, columnsOf}
 use Rattle.sheet.specs.Reading.{Reading, sheets, refused, dueAt, meets, refusalsFrom, refusals, firstMet, readFile, checkOf, nextOf}
 use Rattle.sheet.specs.Tiling.{Known, Tiled, NoneMet, MetFirst}
 use Rattle.sheet.specs.declared.file.Entry.{Entry}
 use Rattle.sheet.specs.declared.file.FileRefusal.{FileRefusal}
-use Rattle.sheet.specs.declared.file.FileRefusal.the-variants.{Size, Count, ContentsCut, Codes, Offset, PastEnd, LeftOver}
+use Rattle.sheet.specs.declared.file.FileRefusal.the-variants.{Codes, Offset, PastEnd, LeftOver}
 use Rattle.sheet.specs.declared.file.FileCheck.the-variants.{Accepted, Refused}
 use Rattle.sheet.specs.declared.file.Next.{Next}
 use Rattle.sheet.specs.declared.file.Next.the-variants.{Sheet, End}

@@ -1,3 +1,4 @@
+-- A counted loop that promises nothing. Assumes nothing.
 use Prim.Native.Nat.{_≤_, _-_}
 use mathlib.Core.Path.{_≡_}
 use lib.ListN.{length}

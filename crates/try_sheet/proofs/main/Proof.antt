@@ -1,3 +1,4 @@
+-- A counted loop that promises nothing. Assumes nothing.
 use Prim.Native.Nat.{_≤_, _-_}
 use borrow.Author.Needs.{needs}
 use Rattle.try_sheet.proofs.main.Statement.{statement}

@@ -1,3 +1,4 @@
+-- What the file's tiling says of the entry that was read is what `print_entry` asks. Assumes nothing.
 use Rattle.sheet.proofs.Theorems.{entry-read}
 use Prim.Native.Nat.{_≤_, _-_}
 use borrow.Author.Needs.{needs}

@@ -1,3 +1,4 @@
+-- An accepted file is tiled. Assumes nothing.
 use mathlib.Core.Path.{sym, _∙_}
 use Rattle.sheet.proofs.Theorems.{accepted-tiled}
 use borrow.Author.Needs.{needs}

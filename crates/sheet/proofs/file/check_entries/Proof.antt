@@ -1,3 +1,4 @@
+-- The loop's invariant: what is left of the order decides the whole, since every refusal before entry i has failed; and the body of entry i is due at `due`. Assumes nothing.
 use native.Mathlib.Nat.{sub-zero}
 use Rattle.floats.proofs.ListLaws.{sub-step, sub-none}
 use Rattle.floats.proofs.TableLaws.{length-table}

@@ -1,3 +1,4 @@
+-- Each test is the condition of its refusal, and those before it failed; the entries are left to `check_entries`. Assumes nothing.
 use borrow.Author.Tests.{lt-ltb, le-ltb}
 use Rattle.sheet.specs.Reading.{readFile, firstMet, meets}
 use borrow.Author.Needs.{needs}

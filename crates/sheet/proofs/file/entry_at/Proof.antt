@@ -1,3 +1,4 @@
+-- Each field fits its type, since k bytes stand for a number below 256 ^ k. Assumes nothing.
 use native.Mathlib.Omega.{arith}
 use Prim.Native.Nat.{_+_}
 use borrow.Author.Needs.{needs}

@@ -1,3 +1,4 @@
+-- Each test is the condition of its refusal, and those before it failed. Assumes nothing.
 use borrow.Author.Tests.{lt-ltb, le-ltb, eq-eqb, ne-eqb}
 use Rattle.sheet.specs.Reading.{meets}
 use borrow.Author.Needs.{needs}

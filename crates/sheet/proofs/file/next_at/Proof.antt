@@ -1,3 +1,4 @@
+-- The two tests of the definition, after one that lets the count be read. The count is below 2^32, so that the entry's end does not wrap. Assumes nothing.
 use borrow.Author.Tests.{lt-ltb, le-ltb, lt-leb, le-leb}
 use native.Mathlib.Omega.{arith}
 use Prim.Native.Nat.{_+_, _<_}

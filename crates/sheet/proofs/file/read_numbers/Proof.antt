@@ -1,3 +1,4 @@
+-- The loop's invariant: the run's front is the table of the numbers read so far, and its rest is as it was. Assumes nothing.
 use mathlib.Core.List.{_++_}
 use lib.ListN.{drop}
 use lib.Ieee.{nan}

@@ -1,3 +1,4 @@
+-- What `read_numbers` says, and that the count lies within the run. Assumes nothing.
 use native.Mathlib.Omega.{arith}
 use mathlib.Core.Path.{refl, sym}
 use lib.Seq.{length-take-le}

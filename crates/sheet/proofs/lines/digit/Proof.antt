@@ -1,3 +1,4 @@
+-- One test, as in the definition. Assumes nothing.
 use borrow.Author.Tests.{lt-ltb, le-ltb}
 use borrow.Author.Needs.{needs}
 use Rattle.sheet.proofs.lines.digit.Statement.{statement}

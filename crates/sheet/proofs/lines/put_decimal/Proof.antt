@@ -1,3 +1,4 @@
+-- The digits that `width` counts, and one byte. Assumes nothing.
 use native.Mathlib.Omega.{arith}
 use Rattle.sheet.proofs.DigitLaws.{length-word}
 use borrow.Author.Needs.{needs}

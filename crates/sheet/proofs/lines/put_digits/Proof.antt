@@ -1,3 +1,4 @@
+-- Digits are put from the last one up: after t turns the last t of the k stand at their places, and the rest of the number is n / base ^ t. Assumes nothing.
 use Prim.Native.Nat.{_^_, _/_}
 use native.Mathlib.Nat.{mod-lt, div-one, sub-self, add-zero, pow-zero, pow-suc, div-div-eq-div-mul}
 use Rattle.sheet.specs.Lines.{digits, putAt}

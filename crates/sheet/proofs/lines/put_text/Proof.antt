@@ -1,3 +1,4 @@
+-- The loop's invariant: the first t bytes of the text stand at their places. Assumes nothing.
 use lib.ListN.{take}
 use lib.Seq.{take-suc, take-all, length-take-le}
 use Rattle.sheet.specs.Lines.{putAt}

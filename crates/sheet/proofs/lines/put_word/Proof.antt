@@ -1,3 +1,4 @@
+-- One byte more behind the digits. Assumes nothing.
 use mathlib.Core.Path.{refl}
 use native.Mathlib.Omega.{arith}
 use Rattle.sheet.proofs.DigitLaws.{length-digits}

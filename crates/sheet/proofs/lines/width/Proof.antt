@@ -1,3 +1,4 @@
+-- The loop's invariant: k digits counted, and the width of the rest still to add; a rest below 10 ^ (21 - k) keeps k within 20. Assumes nothing.
 use Prim.Native.Nat.{_^_}
 use Rattle.floats.proofs.ListLaws.{sub-step}
 use Rattle.sheet.specs.Lines.{widthTo}
