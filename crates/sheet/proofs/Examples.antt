@@ -1,0 +1,120 @@
+-- Document 01's whole case, worked out by the definitions themselves: its 164 bytes, what they are read into, damaged copies, and its lines. Assumes nothing.
+use Prim.Native.Nat.{ℕ, zero, suc, _/_, _%_}
+use mathlib.Core.Path.{_≡_, refl}
+use mathlib.Core.List.{List, [], _∷_, _++_, map}
+use lib.ListN.{length, take, set}
+use Rattle.floats.specs.Words.{float}
+use Rattle.floats.specs.Bits.{littleEndian}
+use Rattle.floats.specs.Tables.{table}
+use Rattle.sheet.specs.Contents.{entryOf, residualsOf, columnsOf}
+use Rattle.sheet.specs.Reading.{sheets, refused, dueAt, meets, refusalsFrom, firstMet, readFile}
+use Rattle.sheet.specs.Lines.{text, digits, widthTo, joined, lineOf, fileLineOf}
+use Rattle.sheet.specs.declared.file.Entry.{Entry}
+use Rattle.sheet.specs.declared.file.FileRefusal.the-variants.{Size, Count, ContentsCut, Codes, Offset, PastEnd, LeftOver}
+use Rattle.sheet.specs.declared.lines.Fields.{Fields}
+
+-- k bytes of n, the least first
+abbrev bytes : ℕ → ℕ → List ℕ
+bytes zero n = []
+bytes (suc k) n = n % 256 ∷ bytes k (n / 256)
+
+abbrev contents : Entry → List ℕ
+contents e = bytes 4 (e .offset) ++ (bytes 2 (e .rows) ++ (bytes 2 (e .columns) ++ (e .alternative ∷ e .choice ∷ bytes 6 0)))
+
+-- 1 and -1
+abbrev plus : List ℕ
+plus = bytes 8 0x3ff0000000000000
+
+abbrev minus : List ℕ
+minus = bytes 8 0xbff0000000000000
+
+abbrev first : Entry
+first = record { offset = 52; rows = 2; columns = 1; alternative = 0; choice = 0 }
+
+abbrev second : Entry
+second = record { offset = 84; rows = 4; columns = 1; alternative = 1; choice = 2 }
+
+abbrev third : Entry
+third = record { offset = 148; rows = 1; columns = 1; alternative = 0; choice = 0 }
+
+unfoldable pub wholeCase : List ℕ
+wholeCase =
+    bytes 4 3
+    ++ (contents first ++ (contents second ++ (contents third
+    ++ (plus ++ (minus ++ (plus ++ plus))
+    ++ (plus ++ (minus ++ (plus ++ (minus ++ (plus ++ (plus ++ (plus ++ plus))))))
+    ++ (plus ++ plus))))))
+
+pub whole-length : length wholeCase ≡ 164
+unfolding wholeCase
+whole-length = refl
+
+pub whole-read : readFile wholeCase ≡ sheets (first ∷ second ∷ third ∷ [])
+unfolding wholeCase readFile firstMet meets refusalsFrom dueAt entryOf littleEndian table
+whole-read = refl
+
+pub whole-numbers : residualsOf wholeCase second ≡ map float (0x3ff0000000000000 ∷ 0xbff0000000000000 ∷ 0x3ff0000000000000 ∷ 0xbff0000000000000 ∷ [])
+unfolding wholeCase littleEndian table
+whole-numbers = refl
+
+pub whole-columns : columnsOf wholeCase third ≡ map float (0x3ff0000000000000 ∷ [])
+unfolding wholeCase littleEndian table
+whole-columns = refl
+
+-- cut, lengthened, or with bytes changed; of two damages the first in the order counts
+pub damaged-read : map readFile (
+    take 3 wholeCase
+    ∷ set wholeCase 0 0
+    ∷ set wholeCase 0 65
+    ∷ take 51 wholeCase
+    ∷ set wholeCase 12 3
+    ∷ set wholeCase 29 3
+    ∷ set wholeCase 51 1
+    ∷ set wholeCase 4 53
+    ∷ set wholeCase 20 83
+    ∷ take 163 wholeCase
+    ∷ set (set (set (set wholeCase 24 255) 25 255) 26 255) 27 255
+    ∷ (wholeCase ++ (0 ∷ []))
+    ∷ set (set wholeCase 4 53) 28 3
+    ∷ [])
+    ≡ refused Size
+    ∷ refused Count
+    ∷ refused Count
+    ∷ refused ContentsCut
+    ∷ refused (Codes 0)
+    ∷ refused (Codes 1)
+    ∷ refused (Codes 2)
+    ∷ refused (Offset 0)
+    ∷ refused (Offset 1)
+    ∷ refused (PastEnd 2)
+    ∷ refused (PastEnd 1)
+    ∷ refused LeftOver
+    ∷ refused (Offset 0)
+    ∷ []
+unfolding wholeCase readFile firstMet meets refusalsFrom dueAt entryOf littleEndian table
+damaged-read = refl
+
+-- its three lines
+abbrev fields : ℕ → ℕ → ℕ → ℕ → ℕ → ℕ → Fields
+fields i refusal d p path settled = record { index = i; refusal = refusal; place = 0; «statistic_bits» = d; «p_bits» = p; path = path; fallback = 0; kept = 0; sweeps = 0; bisections = 0; evaluations = 0; settled = settled }
+
+pub whole-lines : map lineOf (fields 0 0 0x4000000000000000 0x3ff0000000000000 1 1 ∷ fields 1 0 0x4008000000000000 0x3ff0000000000000 4 1 ∷ fields 2 6 0 0 0 0 ∷ [])
+    ≡ map text (
+    "0 0 0 4000000000000000 3ff0000000000000 1 0 0 0 0 0 1\n"
+    ∷ "1 0 0 4008000000000000 3ff0000000000000 4 0 0 0 0 0 1\n"
+    ∷ "2 6 0 0000000000000000 0000000000000000 0 0 0 0 0 0 0\n"
+    ∷ [])
+unfolding lineOf joined digits widthTo text
+whole-lines = refl
+
+pub refusal-lines : map fileLineOf (Size ∷ Codes 63 ∷ LeftOver ∷ []) ≡ map text ("file 1 0\n" ∷ "file 4 63\n" ∷ "file 7 0\n" ∷ [])
+unfolding fileLineOf joined digits widthTo text
+refusal-lines = refl
+
+-- the longest line
+abbrev largest : ℕ
+largest = 0xffffffffffffffff
+
+pub longest-line : length (lineOf (record { index = largest; refusal = largest; place = largest; «statistic_bits» = largest; «p_bits» = largest; path = largest; fallback = largest; kept = largest; sweeps = largest; bisections = largest; evaluations = largest; settled = largest })) ≡ 244
+unfolding lineOf joined digits widthTo
+longest-line = refl
