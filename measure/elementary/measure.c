@@ -1,12 +1,12 @@
 // Measures the port's elementary functions against MPFR, and prints one table. Usage: measure POINTS
-// Each row: POINTS arguments drawn from several families, the hard ones, and the neighbours of the worst of these.
+// Each row: POINTS arguments drawn from several families, the hard ones, and a search for worse about the worst of these.
 // The status is 1 where a bound of exact.h does not hold.
 #include "points.h"
 
 extern double port_exp(double), port_ln(double), port_ln_1p(double), port_atan(double), port_sin(double);
 extern double port_lower_tail(double mean, double variance, double x), port_upper_tail(double mean, double variance, double x);
 
-enum { WORST = 32, NEIGHBOURS = 2000 };
+enum { WORST = 32, NEIGHBOURS = 1000, CLIMBS = 10 };
 
 typedef struct {
     const char *name, *range;
@@ -56,10 +56,16 @@ static void around(Row *row, double x, int count) {
     for (int i = -count; i <= count; i++) at(row, of_bits(b + (uint64_t)(int64_t)i));
 }
 
-static void finish(Row *row) {
+// Looks for worse about the worst, at every distance from a neighbour's to a sixteenth.
+static void climb(Row *row) {
     double x[WORST];
     for (int i = 0; i < WORST; i++) x[i] = row->worst[i].x;
-    for (int i = 0; i < WORST; i++) around(row, x[i], NEIGHBOURS);
+    for (int i = 0; i < WORST; i++)
+        for (int j = 0; j < NEIGHBOURS; j++) at(row, x[i] + x[i] * sign() * scaled(-52, -5));
+}
+
+static void finish(Row *row) {
+    for (int i = 0; i < CLIMBS; i++) climb(row);
     printf("| %s | %s | %ld | %.4f | %.17g | %016lx | %.1f %% | %.2f |\n", row->name, row->range, row->points, row->worst[0].error,
         row->worst[0].x, (unsigned long)bits_of(row->worst[0].x), 100.0 * row->rounded / row->points, row->bound);
     fflush(stdout);
@@ -129,19 +135,19 @@ static void atan_row(long points) {
     finish(&row);
 }
 
-// Multiples of pi/2, where the result is near 0 or 1, and the seams between them: some 4000 of those to `most`.
-static void around_turns(Row *row, double most) {
+// Multiples of pi/2, where the result is near 0 or 1, and the seams between them: at most 4000 of those to `most`, with count numbers on each side.
+static void around_turns(Row *row, double most, int count) {
     long last = (long)(most / M_PI_4), step = 1 + last / 4000;
     for (long k = 1; k <= last; k += step) {
-        around(row, k * M_PI_4, 300);
-        around(row, -k * M_PI_4, 300);
+        around(row, k * M_PI_4, count);
+        around(row, -k * M_PI_4, count);
     }
 }
 
 static void sin_row(long points) {
     Row row = {"sin", "to 256 in size", port_sin, mpfr_sin, SIN_BOUND, -256, 256};
     for (long i = 0; i < points; i++) at(&row, sin_point(i));
-    around_turns(&row, 256);
+    around_turns(&row, 256, 300);
     around(&row, 0x1p-27, 1000);
     finish(&row);
 }
@@ -150,7 +156,7 @@ static void sin_row(long points) {
 static void sin_far_row(long points) {
     Row row = {"sin", "256 to 1647099 in size", port_sin, mpfr_sin, SIN_BOUND, -1647099, 1647099};
     for (long i = 0; i < points; i++) at(&row, sign() * uniform(256, 1647099));
-    around_turns(&row, 1647099);
+    around_turns(&row, 1647099, 30);
     finish(&row);
 }
 

@@ -1,15 +1,30 @@
-// Writes the vectors that crates/try_elementary replays: a function's letter, its arguments, and the least and the greatest answer allowed,
-// each number as the hex digits of its pattern. MPFR and the list of edges decide them; the port is not called.
+// Writes the vectors that crates/try_elementary replays. MPFR and the list of edges decide them; the port is not called. The file is words of
+// 8 bytes, the least byte first: how many vectors each function has, then function by function its vectors: the arguments (one; mean, variance
+// and point for a tail), and the least and the greatest answer allowed, as patterns. `vectors text` prints them as lines of hex digits.
 #include "points.h"
 
-enum { DRAWN = 200, NEAR = 2 };
+enum { DRAWN = 200, NEAR = 2, MOST = 65536 / 8 };
+
+enum { EXP, LN, LN_1P, ATAN, SIN, LOWER_TAIL, UPPER_TAIL, FUNCTIONS };
+static const char *const names[FUNCTIONS] = {"exp", "ln", "ln_1p", "atan", "sin", "lower_tail", "upper_tail"};
 
 static mpfr_t truth, end;
 
-static void line(char letter, const double *arguments, int count, double least, double greatest) {
-    printf("%c ", letter);
-    for (int i = 0; i < count; i++) printf("%016lx ", (unsigned long)bits_of(arguments[i]));
-    printf("%016lx %016lx\n", (unsigned long)bits_of(least), (unsigned long)bits_of(greatest));
+static struct { uint64_t vectors, count, words[MOST]; } group[FUNCTIONS];
+
+static void word(int function, double x) {
+    if (group[function].count == MOST) {
+        fprintf(stderr, "vectors: more than %d words\n", MOST);
+        exit(1);
+    }
+    group[function].words[group[function].count++] = bits_of(x);
+}
+
+static void line(int function, const double *arguments, int count, double least, double greatest) {
+    for (int i = 0; i < count; i++) word(function, arguments[i]);
+    word(function, least);
+    word(function, greatest);
+    group[function].vectors++;
 }
 
 // truth + reach 2^unit, rounded towards truth.
@@ -22,7 +37,7 @@ static double end_of(double reach, long unit) {
 }
 
 typedef struct {
-    char letter;
+    int name;
     Exact exact;
     double bound;
 } Function;
@@ -33,8 +48,8 @@ static void at(const Function *f, double x) {
     f->exact(truth, end, MPFR_RNDN);
     if (mpfr_zero_p(truth)) return;
     double nearest = mpfr_get_d(truth, MPFR_RNDN);
-    if (isinf(nearest)) line(f->letter, &x, 1, nearest, nearest);
-    else line(f->letter, &x, 1, end_of(-f->bound, unit_of(truth)), end_of(f->bound, unit_of(truth)));
+    if (isinf(nearest)) line(f->name, &x, 1, nearest, nearest);
+    else line(f->name, &x, 1, end_of(-f->bound, unit_of(truth)), end_of(f->bound, unit_of(truth)));
 }
 
 // x and NEAR numbers on each side of it.
@@ -43,7 +58,7 @@ static void around(const Function *f, double x) {
 }
 
 static void exp_lines(void) {
-    const Function f = {'e', mpfr_exp, EXP_BOUND};
+    const Function f = {EXP, mpfr_exp, EXP_BOUND};
     for (int i = 0; i < DRAWN; i++) at(&f, exp_point(i));
     for (int k = -1075; k <= 1024; k += 139) around(&f, (k + 0.5) * M_LN2);
     around(&f, -745.13321910194122);
@@ -53,7 +68,7 @@ static void exp_lines(void) {
 }
 
 static void ln_lines(void) {
-    const Function f = {'n', mpfr_log, LN_BOUND};
+    const Function f = {LN, mpfr_log, LN_BOUND};
     for (int i = 0; i < DRAWN; i++) at(&f, ln_point(i));
     for (int k = -1074; k <= 1023; k += 149) around(&f, ldexp(M_SQRT2, k));
     around(&f, 1);
@@ -64,7 +79,7 @@ static void ln_lines(void) {
 }
 
 static void ln_1p_lines(void) {
-    const Function f = {'p', mpfr_log1p, LN_1P_BOUND};
+    const Function f = {LN_1P, mpfr_log1p, LN_1P_BOUND};
     for (int i = 0; i < DRAWN; i++) at(&f, ln_1p_point(i));
     for (int i = 0; i < DRAWN; i++) at(&f, ln_1p_below_point(i));
     for (int k = 0; k <= 60; k += 6) around(&f, ldexp(M_SQRT2, k) - 1);
@@ -76,7 +91,7 @@ static void ln_1p_lines(void) {
 
 static void atan_lines(void) {
     static const double seam[] = {0.4375, 0.6875, 1.1875, 2.4375, 0.5, 1, 1.5, 0x1p-28, 0x1p54};
-    const Function f = {'a', mpfr_atan, ATAN_BOUND};
+    const Function f = {ATAN, mpfr_atan, ATAN_BOUND};
     for (int i = 0; i < DRAWN; i++) at(&f, atan_point(i));
     for (unsigned i = 0; i < sizeof seam / sizeof seam[0]; i++) {
         around(&f, seam[i]);
@@ -85,7 +100,7 @@ static void atan_lines(void) {
 }
 
 static void sin_lines(void) {
-    const Function f = {'s', mpfr_sin, SIN_BOUND};
+    const Function f = {SIN, mpfr_sin, SIN_BOUND};
     for (int i = 0; i < DRAWN; i++) at(&f, sin_point(i));
     for (int k = 1; k <= 325; k += 27) {
         around(&f, k * M_PI_4);
@@ -94,17 +109,21 @@ static void sin_lines(void) {
     around(&f, 164 * M_PI_2);
 }
 
-static void tail_line(char letter, Place p) {
+// Both tails at one place. An end outside 0 .. 1 is no answer.
+static void tails_at(Place p) {
     double arguments[] = {p.mean, p.variance, p.x};
-    exact_tail(truth, p.mean, p.variance, p.x, letter == 'l' ? -1 : 1);
-    line(letter, arguments, 3, fmax(0, end_of(-TAIL_BOUND, 0)), fmin(1, end_of(TAIL_BOUND, 0)));
+    for (int name = LOWER_TAIL; name <= UPPER_TAIL; name++) {
+        exact_tail(truth, p.mean, p.variance, p.x, name == LOWER_TAIL ? -1 : 1);
+        line(name, arguments, 3, fmax(0, end_of(-TAIL_BOUND, 0)), fmin(1, end_of(TAIL_BOUND, 0)));
+    }
 }
 
-static void tail_lines(char letter) {
-    for (int i = 0; i < DRAWN; i++) tail_line(letter, tail_point(i));
-    for (double x = -8; x <= 8; x += 0.5) tail_line(letter, (Place){0, 1, x});
+static void tail_lines(void) {
+    for (int i = 0; i < DRAWN; i++) tails_at(tail_point(i));
+    for (double x = -8; x <= 8; x += 0.5) tails_at((Place){0, 1, x});
 }
 
+// Answers to the bit: IEEE 754 (9.2.1) for what it names; a NaN for the sine beyond its reduction; of the tails, what their definition says.
 #define INF 0x7ff0000000000000
 #define NONE 0x7ff8000000000000
 #define MINUS 0x8000000000000000
@@ -112,35 +131,78 @@ static void tail_lines(char letter) {
 #define LARGEST 0x7fefffffffffffff
 #define HALF_PI 0x3ff921fb54442d18
 
-// Answers to the bit: IEEE 754 (9.2.1) for what it names, and a NaN for the sine beyond its reduction.
 static void edge_lines(void) {
-    static const struct { char letter; uint64_t x, answer; } edges[] = {
-        {'e', 0, ONE}, {'e', MINUS, ONE}, {'e', 1, ONE}, {'e', MINUS | 1, ONE}, {'e', INF, INF}, {'e', MINUS | INF, 0}, {'e', NONE, NONE},
-        {'e', LARGEST, INF}, {'e', MINUS | LARGEST, 0},
-        {'n', ONE, 0}, {'n', 0, MINUS | INF}, {'n', MINUS, MINUS | INF}, {'n', MINUS | 1, NONE}, {'n', MINUS | ONE, NONE}, {'n', INF, INF},
-        {'n', MINUS | INF, NONE}, {'n', NONE, NONE},
-        {'p', 0, 0}, {'p', MINUS, MINUS}, {'p', 1, 1}, {'p', MINUS | 1, MINUS | 1}, {'p', MINUS | ONE, MINUS | INF}, {'p', 0xbff0000000000001, NONE},
-        {'p', INF, INF}, {'p', MINUS | INF, NONE}, {'p', NONE, NONE},
-        {'a', 0, 0}, {'a', MINUS, MINUS}, {'a', 1, 1}, {'a', MINUS | 1, MINUS | 1}, {'a', INF, HALF_PI}, {'a', MINUS | INF, MINUS | HALF_PI},
-        {'a', LARGEST, HALF_PI}, {'a', MINUS | LARGEST, MINUS | HALF_PI}, {'a', NONE, NONE},
-        {'s', 0, 0}, {'s', MINUS, MINUS}, {'s', 1, 1}, {'s', MINUS | 1, MINUS | 1}, {'s', INF, NONE}, {'s', MINUS | INF, NONE}, {'s', NONE, NONE},
-        {'s', LARGEST, NONE}, {'s', MINUS | LARGEST, NONE},
+    static const struct { int name; uint64_t x, answer; } edges[] = {
+        {EXP, 0, ONE}, {EXP, MINUS, ONE}, {EXP, 1, ONE}, {EXP, MINUS | 1, ONE}, {EXP, INF, INF}, {EXP, MINUS | INF, 0}, {EXP, NONE, NONE},
+        {EXP, LARGEST, INF}, {EXP, MINUS | LARGEST, 0},
+        {LN, ONE, 0}, {LN, 0, MINUS | INF}, {LN, MINUS, MINUS | INF}, {LN, MINUS | 1, NONE}, {LN, MINUS | ONE, NONE}, {LN, INF, INF},
+        {LN, MINUS | INF, NONE}, {LN, NONE, NONE},
+        {LN_1P, 0, 0}, {LN_1P, MINUS, MINUS}, {LN_1P, 1, 1}, {LN_1P, MINUS | 1, MINUS | 1}, {LN_1P, MINUS | ONE, MINUS | INF},
+        {LN_1P, MINUS | (ONE + 1), NONE}, {LN_1P, INF, INF}, {LN_1P, MINUS | INF, NONE}, {LN_1P, NONE, NONE},
+        {ATAN, 0, 0}, {ATAN, MINUS, MINUS}, {ATAN, 1, 1}, {ATAN, MINUS | 1, MINUS | 1}, {ATAN, INF, HALF_PI}, {ATAN, MINUS | INF, MINUS | HALF_PI},
+        {ATAN, LARGEST, HALF_PI}, {ATAN, MINUS | LARGEST, MINUS | HALF_PI}, {ATAN, NONE, NONE},
+        {SIN, 0, 0}, {SIN, MINUS, MINUS}, {SIN, 1, 1}, {SIN, MINUS | 1, MINUS | 1}, {SIN, INF, NONE}, {SIN, MINUS | INF, NONE}, {SIN, NONE, NONE},
+        {SIN, LARGEST, NONE}, {SIN, MINUS | LARGEST, NONE}, {SIN, 0x413921fb00000001, NONE}, {SIN, MINUS | 0x413921fb00000001, NONE},
+    };
+    static const struct { uint64_t mean, variance, x, lower, upper; } tails[] = {
+        {0, ONE, INF, ONE, 0}, {0, ONE, MINUS | INF, 0, ONE}, {0, ONE, LARGEST, ONE, 0}, {0, ONE, MINUS | LARGEST, 0, ONE},
+        {0, ONE, 0x4044000000000000, ONE, 0}, {0, ONE, 0xc044000000000000, 0, ONE},                 // at 40 and -40
+        {NONE, ONE, 0, NONE, NONE}, {0, NONE, 0, NONE, NONE}, {0, ONE, NONE, NONE, NONE}, {0, MINUS | ONE, 0, NONE, NONE},
+        {INF, ONE, 0, 0, ONE}, {MINUS | INF, ONE, 0, ONE, 0}, {INF, ONE, INF, NONE, NONE},
+        {0, 0, ONE, ONE, 0}, {0, 0, MINUS | ONE, 0, ONE}, {0, 0, 0, NONE, NONE},                     // no variance
     };
     for (unsigned i = 0; i < sizeof edges / sizeof edges[0]; i++) {
         double x = of_bits(edges[i].x), answer = of_bits(edges[i].answer);
-        line(edges[i].letter, &x, 1, answer, answer);
+        line(edges[i].name, &x, 1, answer, answer);
+    }
+    for (unsigned i = 0; i < sizeof tails / sizeof tails[0]; i++) {
+        double arguments[] = {of_bits(tails[i].mean), of_bits(tails[i].variance), of_bits(tails[i].x)};
+        line(LOWER_TAIL, arguments, 3, of_bits(tails[i].lower), of_bits(tails[i].lower));
+        line(UPPER_TAIL, arguments, 3, of_bits(tails[i].upper), of_bits(tails[i].upper));
     }
 }
 
-int main(void) {
+static void put(uint64_t w) {
+    for (int i = 0; i < 8; i++) putchar((int)(w >> (8 * i) & 255));
+}
+
+static void write_words(void) {
+    for (int f = 0; f < FUNCTIONS; f++) put(group[f].vectors);
+    for (int f = 0; f < FUNCTIONS; f++)
+        for (uint64_t i = 0; i < group[f].count; i++) put(group[f].words[i]);
+}
+
+static void write_text(void) {
+    for (int f = 0; f < FUNCTIONS; f++) {
+        uint64_t width = group[f].count / group[f].vectors;
+        for (uint64_t i = 0; i < group[f].count; i++) {
+            if (i % width == 0) printf("%s", names[f]);
+            printf(" %016lx%s", (unsigned long)group[f].words[i], i % width == width - 1 ? "\n" : "");
+        }
+    }
+}
+
+int main(int count, char **arguments) {
+    int is_text = count == 2 && strcmp(arguments[1], "text") == 0;
+    if (count != 1 && !is_text) {
+        fprintf(stderr, "usage: vectors [text]\n");
+        return 2;
+    }
     mpfr_inits2(PRECISION, truth, end, (mpfr_ptr)0);
     exp_lines();
     ln_lines();
     ln_1p_lines();
     atan_lines();
     sin_lines();
-    tail_lines('l');
-    tail_lines('u');
+    tail_lines();
     edge_lines();
-    return ferror(stdout) || fflush(stdout) ? 1 : 0;
+    uint64_t words = FUNCTIONS;
+    for (int f = 0; f < FUNCTIONS; f++) words += group[f].count;
+    if (words > MOST) {
+        fprintf(stderr, "vectors: %lu words, more than %d\n", (unsigned long)words, MOST);
+        return 1;
+    }
+    if (is_text) write_text();
+    else write_words();
+    return fflush(stdout) == 0 && !ferror(stdout) ? 0 : 1;
 }
