@@ -1,13 +1,15 @@
--- The bounds of the normal tails. Assumes nothing.
-use mathlib.Core.Path.{_≡_, refl, sym, ap, _∙_}
-use mathlib.Core.Bool.{Bool, true, false, not, _||_, cond, true≢false}
+-- The bounds of the normal tails. The one idea: a tail is clamped to 0 .. 1/2 whatever exp gives, so it is enough that the standardized point z is a number, and not below 0 where
+-- x is at or beyond the mean. z is a number since x - mean is one and the root of the variance is finite and above 0. Assumes nothing.
+use mathlib.Core.Path.{_≡_, refl, sym, _∙_}
+use mathlib.Core.Bool.{Bool, true, false, _||_, cond, true≢false}
 use lib.Dec.{T}
-use lib.Ieee.{Float, nan, inf, fin, binary64, neg, sub, add, div, lt, ne, le, isNan}
+use lib.Ieee.{Float, nan, inf, fin, neg, sub, add, div, lt, ne, isNan}
 use lib.Ieee.Positive.{positive}
 use Rattle.floats.specs.Words.{_⊖_, _⊘_, plusZero, one}
 use Rattle.floats.proofs.SignLaws.{differs}
 use Rattle.roots.specs.Root.{sqrtOf}
-use Rattle.elementary.specs.Tails.{half, halfTail, tailBeyond, standardized, lowerTail, upperTail}
+use Rattle.elementary.specs.Tails.{halfTail, tailBeyond, standardized, lowerTail, upperTail}
+use Rattle.elementary.specs.Patterns.{half}
 use Rattle.elementary.specs.Bounds.{Within, Proper, TailsWithinOne, UpperWithinHalf, LowerWithinHalf, NanGivesNan}
 use Rattle.elementary.specs.declared.NormalLaw.{NormalLaw}
 use Rattle.elementary.proofs.Small.{Small, clamped-small, rest-within, within-half, within-one}

@@ -1,12 +1,16 @@
 -- The values at the edges, and one inside, by computation: each definition is run. Assumes nothing.
 use mathlib.Core.Path.{_≡_, refl}
 use mathlib.Core.Bool.{true, false}
-use lib.Ieee.{Float, nan, inf, neg, add, sub, mul, div, lt, le, eq, ofBits, toBits, ofInt}
+use lib.Ieee.{Float, nan, inf, neg, add, sub, mul, div, lt, le, eq, ne, ofBits, toBits, ofInt}
+use Rattle.roots.specs.Root.{sqrtOf}
 use Rattle.floats.specs.Words.{float, plusZero, minusZero, one, two}
 use Rattle.elementary.specs.Exp.{expOf}
 use Rattle.elementary.specs.Ln.{lnOf, ln1pOf}
 use Rattle.elementary.specs.Atan.{atanOf}
 use Rattle.elementary.specs.Sin.{sinOf}
+use Rattle.elementary.specs.Patterns.{half}
+use Rattle.elementary.specs.Tails.{halfTail, lowerTail, upperTail}
+use Rattle.elementary.specs.declared.NormalLaw.{NormalLaw}
 
 -- the smallest and the largest positive number
 abbrev smallest : Float
@@ -47,3 +51,13 @@ sin-edges : (sinOf nan ≡ nan) × (sinOf (inf false) ≡ nan) × (sinOf (inf tr
     × (sinOf (float 0x3ff921fb54442d18) ≡ one) × (sinOf (float 0x413921fb00000001) ≡ nan) × (sinOf (float 0xc13921fb00000001) ≡ nan)
 unfolding sinOf add sub mul div lt neg ofBits toBits
 sin-edges = (refl, refl, refl, refl, refl, refl, refl, refl, refl)
+
+-- the law with the mean 0 and this variance
+abbrev about : Float → NormalLaw
+about v = record { mean = plusZero; variance = v }
+
+tail-edges : (upperTail (about one) plusZero ≡ half) × (lowerTail (about one) plusZero ≡ half) × (upperTail (about one) (inf false) ≡ plusZero) × (lowerTail (about one) (inf false) ≡ one)
+    × (upperTail (about one) (inf true) ≡ one) × (lowerTail (about one) (inf true) ≡ plusZero) × (upperTail (about plusZero) one ≡ plusZero) × (lowerTail (about plusZero) one ≡ one)
+    × (upperTail (about plusZero) plusZero ≡ nan) × (upperTail (about (neg one)) one ≡ nan) × (upperTail (about (inf false)) one ≡ half)
+unfolding upperTail lowerTail halfTail expOf sqrtOf add sub mul div lt ne neg ofBits toBits
+tail-edges = (refl, refl, refl, refl, refl, refl, refl, refl, refl, refl, refl)

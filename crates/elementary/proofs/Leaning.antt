@@ -1,13 +1,13 @@
 -- Which way a standardized point leans: x - mean leans up where x is at or above the mean, and a division by a root above 0 keeps that. The one idea: a value leans s where
 -- it has the sign s or is a zero, since a zero counts for either side whatever its sign. Assumes nothing.
-use mathlib.Core.Path.{_≡_, refl, sym, ap, _∙_, subst}
+use mathlib.Core.Path.{_≡_, refl, sym, _∙_, subst}
 use mathlib.Core.Bool.{Bool, true, false, not, _&&_, _||_, Bool·beq, cond, true≢false}
 use Prim.Native.Nat.{ℕ, zero, suc, _+_, _-_, _*_, _^_, _≤_, _<_}
-use native.Mathlib.Nat.{zero-mul, mul-pos, lt-irrefl, sub-self}
+use native.Mathlib.Nat.{zero-mul, mul-pos, lt-irrefl}
 use native.Mathlib.Omega.{arith}
 use borrow.Author.Tests.{ltb-true, ltb-false, eqb-true, ne-eqb, le-ltb}
-use lib.IntN.{ℤ, pos, negsuc}
-use lib.Dec.{T, ltb, eqb, ltb→lt, nltb→le, lit<}
+use lib.IntN.{ℤ, pos}
+use lib.Dec.{T, ltb, eqb, ltb→lt, lit<}
 use lib.Pow.{pow-pos}
 use lib.Ieee.{Float, nan, inf, fin, binary64, up, down, below, level, odd, units, round, sum, add, sub, div, neg, lt, eq, le, isNan, ofBits}
 use lib.Ieee.Fits.{up-pos, down-pos, round-is}
@@ -15,7 +15,6 @@ use lib.Ieee.Exact.{HasValue, round-exact}
 use lib.Ieee.Scale.{finite}
 use lib.Ieee.Positive.{positive}
 use Rattle.floats.specs.Words.{_⊖_, _⊘_, plusZero}
-use Rattle.elementary.proofs.Small.{round-number}
 
 -- the value has the sign s, or is a zero
 pub data Leans (s : Bool) : Float → Type 0 where
@@ -43,7 +42,7 @@ units-leans s q k = go (ltb (q * 2 ^ k) (2 ^ 2098))
     go true = odd-leans 54 s q k 1074
     go false = wide
 
-round-leans : (s : Bool) (a b : ℕ) → Leans s (round binary64 s a b)
+pub round-leans : (s : Bool) (a b : ℕ) → Leans s (round binary64 s a b)
 round-leans s a b = rw (round-is binary64 s a b) (units-leans s _ _)
 
 none-by : (m u c : ℕ) → 0 < u → 0 < c → m * u * c ≡ 0 → m ≡ 0
@@ -144,9 +143,9 @@ unfolding sum
 sum-number s t a b c = go (Bool·beq s t) (ltb a b)
   where
     go : (x y : Bool) → isNan (cond x (round binary64 s (a + b) c) (cond y (round binary64 t (b - a) c) (round binary64 (s && ltb b a) (a - b) c))) ≡ false
-    go true y = round-number binary64 s (a + b) c
-    go false true = round-number binary64 t (b - a) c
-    go false false = round-number binary64 (s && ltb b a) (a - b) c
+    go true y = leans-number (round-leans s (a + b) c)
+    go false true = leans-number (round-leans t (b - a) c)
+    go false false = leans-number (round-leans (s && ltb b a) (a - b) c)
 
 pub difference-number : (x m : Float) → finite m ≡ true → isNan x ≡ false → isNan (x ⊖ m) ≡ false
 unfolding sub add neg

@@ -1,23 +1,23 @@
 -- The root of a finite value above 0 is finite and above 0. The one idea: it is the nearest value to the true root, which is far above half the smallest value, so it is
 -- not 0. Assumes nothing.
 use mathlib.Core.Path.{_≡_, refl, sym, ap, _∙_}
-use mathlib.Core.Bool.{Bool, true, false, not, _&&_, true≢false}
+use mathlib.Core.Bool.{Bool, true, false, _&&_, true≢false}
 use Prim.Native.Nat.{ℕ, zero, suc, _+_, _-_, _*_, _%_, _^_, _≤_, _<_}
-use native.Mathlib.Nat.{mul-assoc, mul-one, mul-pos, lt-of-not-le, lt-irrefl, lt-of-lt-of-le, le-trans, zero-mul}
+use native.Mathlib.Nat.{mul-assoc, mul-one, mul-pos, lt-irrefl, lt-of-lt-of-le, zero-mul}
 use native.Mathlib.Omega.{arith}
 use borrow.Author.Tests.{ltb-true}
 use lib.IntN.{ℤ, pos, negsuc}
-use lib.Dec.{T, ltb, leb, eqb, leb→le, lit<, lit≤, lt→ltb}
-use lib.Pow.{pow-add, pow-pos, pow-lt, pow-mono}
+use lib.Dec.{T, ltb, leb, eqb, leb→le, lt→ltb}
+use lib.Pow.{pow-add, pow-pos, pow-lt}
 use lib.Ieee.{Float, nan, inf, fin, binary64, up, down, lt, fits, ofBits}
-use lib.Ieee.Fits.{up-pos, down-pos, and-l, and-r}
+use lib.Ieee.Fits.{and-l, and-r}
 use lib.Ieee.Bits.{ofBits-fits}
 use lib.Ieee.Exact.{HasValue}
 use lib.Ieee.Scale.{finite}
 use lib.Ieee.Positive.{positive, positive-of-value, value-pos}
 use Rattle.floats.specs.Words.{plusZero, float}
 use Rattle.roots.specs.Root.{sqrtOf}
-use Rattle.roots.specs.Nearest.{NearestRoot, Holds}
+use Rattle.roots.specs.Nearest.{Holds}
 use Rattle.roots.proofs.Nearest.{root-is-nearest}
 
 pub above-positive : (v : Float) → finite v ≡ true → lt plusZero v ≡ true → T (positive v)

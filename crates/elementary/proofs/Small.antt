@@ -1,20 +1,22 @@
 -- What a clamped tail t can be, and that 1 - t lies in 0 .. 1. The one idea: t is +0, 1/2 or a fraction below 1/2, and rounding keeps the order, so 1 - t rounds to no
 -- less than 0 and no more than 1. Assumes nothing.
-use mathlib.Core.Path.{_≡_, refl, sym, ap, _∙_, subst}
-use mathlib.Core.Bool.{Bool, true, false, not, cond}
-use Prim.Native.Nat.{ℕ, zero, suc, _+_, _-_, _*_, _^_, _≤_, _<_}
-use native.Mathlib.Nat.{zero-mul, mul-one, one-mul, mul-pos}
+use mathlib.Core.Path.{_≡_, refl}
+use mathlib.Core.Bool.{Bool, true, false, cond}
+use Prim.Native.Nat.{ℕ, _-_, _*_, _≤_, _<_}
+use native.Mathlib.Nat.{zero-mul}
 use native.Mathlib.Omega.{arith}
-use lib.IntN.{ℤ, pos, negsuc}
+use lib.IntN.{ℤ, pos}
 use lib.Dec.{T, ltb, ltb→lt, lit<}
-use lib.Ieee.{Float, nan, inf, fin, Format, prec, emax, low, binary64, up, down, size, odd, units, round, sum, add, sub, neg, lt, le, isNan, ofBits}
-use lib.Ieee.Fits.{up-pos, down-pos}
+use lib.Ieee.{Float, nan, inf, fin, binary64, up, down, size, odd, units, round, sum, add, sub, neg, lt, le, isNan, ofBits}
+use lib.Ieee.Fits.{down-pos}
 use lib.Ieee.Bits.{is-true}
 use lib.Ieee.Exact.{HasValue}
 use lib.Ieee.Order.{le-of-values, round-mono}
 use Rattle.floats.specs.Words.{_⊖_, plusZero, one}
-use Rattle.elementary.specs.Tails.{half, clamped}
+use Rattle.elementary.specs.Tails.{clamped}
+use Rattle.elementary.specs.Patterns.{half}
 use Rattle.elementary.specs.Bounds.{Within}
+use Rattle.elementary.proofs.Leaning.{leans-number, round-leans}
 
 -- +0, a fraction above 0 and below 1/2, or 1/2
 pub data Small : Float → Type 0 where
@@ -35,25 +37,7 @@ clamped-small (fin false m e) = go (ltb (0 * up (pos 0) * down e) (m * up e * do
     go true false h = most
     go true true h = some m e (omega (arith, h tt))
 
--- ---- a rounded fraction is a number
-odd-number : (d : ℕ) (s : Bool) (q k l : ℕ) → isNan (odd d s q k l) ≡ false
-unfolding odd isNan
-odd-number d s zero k l = refl
-odd-number d s (suc q) k l = refl
-
-units-number : (f : Format) (s : Bool) (q k : ℕ) → isNan (units f s q k) ≡ false
-unfolding units isNan
-units-number f s q k = go (ltb (q * 2 ^ k) (2 ^ (low f + suc (emax f))))
-  where
-    go : (b : Bool) → isNan (cond b (odd (suc (prec f)) s q k (low f)) (inf s)) ≡ false
-    go true = odd-number (suc (prec f)) s q k (low f)
-    go false = refl
-
-pub round-number : (f : Format) (s : Bool) (a b : ℕ) → isNan (round f s a b) ≡ false
-unfolding round
-round-number f s a b = units-number f s _ _
-
--- ---- 0, 1/2 and 1 are rounded fractions
+-- ---- 1 less a clamped tail: 0 and 1 are rounded fractions
 pub zero-rounded : round binary64 false 0 1 ≡ plusZero
 unfolding round units odd size ofBits
 zero-rounded = refl
@@ -65,7 +49,7 @@ one-rounded = refl
 -- a fraction from 0 to 1 rounds to a number from 0 to 1
 pub fraction-within : (a c : ℕ) → 0 < c → a ≤ c → Within plusZero one (round binary64 false a c)
 fraction-within a c C h = record {
-  number = round-number binary64 false a c;
+  number = leans-number (round-leans false a c);
   from = is-true (le plusZero (round binary64 false a c)) (rw zero-rounded at (round-mono binary64 0 1 a c (lit< tt) C (omega (arith, zero-mul c))));
   to = is-true (le (round binary64 false a c) one) (rw one-rounded at (round-mono binary64 a c 1 1 C (lit< tt) (omega arith)));
 }

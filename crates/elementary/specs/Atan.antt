@@ -58,10 +58,11 @@ atanRest t =
     let w = z ⊗ z in
     t ⊗ (z ⊗ horner atanOdd w ⊕ w ⊗ horner atanEven w)
 
--- Step 2 from 7/16 on: the two parts of atan p, and t.
+-- Step 2 from 7/16 on: the two parts of atan p, and t, at point i.
 abbrev pub about : ℕ → Float → Turned
 about i a = record { hi = atanHi ‼ i; lo = atanLo ‼ i; t = (a ⊖ points ‼ i) ⊘ (one ⊕ points ‼ i ⊗ a) }
 
+-- The nearest point: 1/2, 1, 3/2 or infinity.
 abbrev pub turn : Float → Turned
 turn a =
     cond (lt a (seams ‼ 1)) (about 0 a)
@@ -73,8 +74,10 @@ turn a =
 abbrev pub atanTurned : Turned → Float
 atanTurned p = p .hi ⊕ (atanRest (p .t) ⊕ p .lo ⊕ p .t)
 
+-- atan a, for an a that is not below 0
 abbrev pub atanSize : Float → Float
 atanSize a = cond (lt a (seams ‼ 0)) (a ⊕ atanRest a) (atanTurned (turn a))
 
+-- atan x
 unfoldable pub atanOf : Float → Float
 atanOf x = cond (lt x plusZero) (neg (atanSize (neg x))) (atanSize x)

@@ -6,7 +6,8 @@ use lib.Dec.{T}
 use lib.Ieee.{Float, nan, binary64, fits, isNan, lt, le}
 use lib.Ieee.Scale.{finite}
 use Rattle.floats.specs.Words.{plusZero, one}
-use Rattle.elementary.specs.Tails.{half, lowerTail, upperTail}
+use Rattle.elementary.specs.Tails.{lowerTail, upperTail}
+use Rattle.elementary.specs.Patterns.{half}
 use Rattle.elementary.specs.declared.NormalLaw.{NormalLaw}
 
 -- t is a number from lo to hi

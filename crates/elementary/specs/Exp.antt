@@ -58,6 +58,7 @@ expReduced x k =
 abbrev pub scaled : Float → ℕ → Float
 scaled y j = y ⊗ twoTo (j / 2) ⊗ twoTo (j - j / 2)
 
+-- e ^ x
 unfoldable pub expOf : Float → Float
 expOf x =
     let t = x ⊗ perLnTwo ⊕ shift in

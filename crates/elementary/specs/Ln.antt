@@ -12,12 +12,11 @@
 --   ln (1 + ±0) = ±0, ln (1 + -1) = -infinity, ln (1 + infinity) = +infinity, NaN below -1 and at NaN.
 -- Error: at most 0.87 units in the last place for ln, and for ln (1 + x) 0.85 from 0 up and 0.89 below 0
 -- (measure/elementary/measure.sh). The constants are derived by measure/elementary/constants.py.
-use Prim.Native.Nat.{ℕ}
 use mathlib.Core.Bool.{cond}
 use mathlib.Core.List.{List, [], _∷_, map}
 use lib.Ieee.{Float, binary64, toBits, lt, le, eq, neg}
 use Rattle.floats.specs.Words.{_⊕_, _⊖_, _⊗_, _⊘_, _‼_, float, one, two, plusZero}
-use Rattle.elementary.specs.Patterns.{fieldOf, raised, digitsOf, minusInfinity, noNumber}
+use Rattle.elementary.specs.Patterns.{half, fieldOf, raised, digitsOf, minusInfinity, noNumber}
 use Rattle.elementary.specs.Horner.{horner}
 use Rattle.elementary.specs.Exp.{lnTwo}
 
@@ -62,7 +61,7 @@ lnRest f g =
     let s = f ⊘ (two ⊕ f) in
     let z = s ⊗ s in
     let w = z ⊗ z in
-    let h = float 0x3fe0000000000000 ⊗ f ⊗ f in
+    let h = half ⊗ f ⊗ f in
     h ⊖ (s ⊗ (h ⊕ (w ⊗ horner lnEven w ⊕ z ⊗ horner lnOdd w)) ⊕ g)
 
 -- ln w + c, for a w from the smallest normal number up; n is what w's exponent field counts from.
@@ -73,12 +72,14 @@ lnNormal w n c =
     let f = digitsOf b ⊖ one in
     k ⊗ lnTwo ‼ 0 ⊖ (lnRest f (c ⊕ k ⊗ lnTwo ‼ 1) ⊖ f)
 
+-- ln x
 unfoldable pub lnOf : Float → Float
 lnOf x =
     cond (le leastNormal x) (cond (le x largest) (lnNormal x bias plusZero) x)
     (cond (lt plusZero x) (lnNormal (x ⊗ twoTo54) biasScaled plusZero)
     (cond (eq x plusZero) minusInfinity noNumber))
 
+-- ln (1 + x)
 unfoldable pub ln1pOf : Float → Float
 ln1pOf x =
     let w = one ⊕ x in

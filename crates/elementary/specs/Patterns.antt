@@ -1,4 +1,4 @@
--- What the step lists take from and make of bit patterns, and the values that are no finite numbers.
+-- What the step lists take from and make of bit patterns, and the constants that several of them share.
 -- A pattern is a sign, an exponent field of 11 digits that counts from 1023, and the 52 digits below the leading one (lib.Ieee's toBits and ofBits).
 -- Definitions only. Assumes nothing.
 use Prim.Native.Nat.{ℕ, _+_, _-_, _*_, _/_, _%_, _^_}
@@ -26,7 +26,10 @@ raised b = b % 2 ^ 63 + (0x3ff0000000000000 - rootHalf)
 abbrev pub digitsOf : ℕ → Float
 digitsOf b = float (b % 2 ^ 52 + rootHalf)
 
--- +infinity, -infinity and NaN
+-- 1/2, +infinity, -infinity and NaN
+abbrev pub half : Float
+half = float 0x3fe0000000000000
+
 abbrev pub plusInfinity : Float
 plusInfinity = one ⊘ plusZero
 

@@ -16,7 +16,7 @@ use mathlib.Core.List.{List, [], _∷_, map}
 use lib.Dec.{eqb}
 use lib.Ieee.{Float, binary64, toBits, lt, neg}
 use Rattle.floats.specs.Words.{_⊕_, _⊖_, _⊗_, _‼_, float, one}
-use Rattle.elementary.specs.Patterns.{noNumber}
+use Rattle.elementary.specs.Patterns.{half, noNumber}
 use Rattle.elementary.specs.Horner.{horner}
 
 -- pi/2 in four parts: 33 digits, the next 33, the next 33, the rest rounded
@@ -47,9 +47,6 @@ shift = float 0x4338000000000000
 
 abbrev pub furthest : Float
 furthest = float 0x413921fb00000000
-
-abbrev pub half : Float
-half = float 0x3fe0000000000000
 
 -- sin (r - c) and cos (r - c)
 abbrev pub sinKernel : Float → Float → Float
@@ -83,5 +80,6 @@ sinReduced x =
     let c = d ⊖ (m ⊖ r) ⊕ (b ⊖ (a ⊖ m)) ⊕ k ⊗ halfPi ‼ 3 in
     quarterTurns (toBits binary64 t % 4) r c
 
+-- sin x
 unfoldable pub sinOf : Float → Float
 sinOf x = cond (lt furthest x) noNumber (cond (lt x (neg furthest)) noNumber (sinReduced x))

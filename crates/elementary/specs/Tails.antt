@@ -8,15 +8,16 @@
 --   3. The tail is clamped to 0 .. 1/2. At z = +infinity u is no number, and neither is the product: it counts as 0.
 --   4. For z < 0 the tail beyond z is 1 less the tail beyond -z. At a NaN it is NaN.
 --   5. The upper tail at x is the tail beyond z, the lower tail the tail beyond -z.
--- Values: NaN where the mean, the variance or the point is a NaN, and where the variance is below 0. At a variance of 0, z is an infinity (or a NaN where x is the mean).
--- Error: at most 2.5e-16, and 4e-15 of the tail itself to z = 10; the two tails at a point add up to 1 within 1.2e-16
+-- Values: NaN where the mean, the variance or the point is a NaN, and where the variance is below 0. At a variance of 0 z is an infinity, so the tails are 0 and 1, and a NaN
+-- where x is the mean. At a variance of +infinity z is 0, and a NaN where x - mean is infinite. An infinity less the same infinity is a NaN.
+-- Error: at most 3e-16, and 4e-15 of the tail itself to z = 10; the two tails at a point add up to 1 within 1.2e-16
 -- (measure/elementary/measure.sh). The constants are derived by measure/elementary/constants.py.
-use Prim.Native.Nat.{ℕ}
 use mathlib.Core.Bool.{cond}
 use mathlib.Core.List.{List, [], _∷_, map}
 use lib.Ieee.{Float, lt, ne, neg}
 use Rattle.floats.specs.Words.{_⊕_, _⊖_, _⊗_, _⊘_, float, one, plusZero}
 use Rattle.roots.specs.Root.{sqrtOf}
+use Rattle.elementary.specs.Patterns.{half}
 use Rattle.elementary.specs.Horner.{horner}
 use Rattle.elementary.specs.Exp.{expOf}
 use Rattle.elementary.specs.declared.NormalLaw.{NormalLaw}
@@ -30,10 +31,7 @@ millsTable =
     0xbf0bda958a447d74 ∷ 0x3f23f05087f089ed ∷ 0x3f13a47834b8b4ba ∷ 0xbf59a9869381a758 ∷ 0x3f75d79d2346a03a ∷ 0xbf85dca2064e4050 ∷
     0x3f8a469f31f08795 ∷ 0xbf644306b3e06cda ∷ 0xbf9f2b8e0dbc6014 ∷ 0x3fb6ccf2f523ec7c ∷ 0xbfc4e664cd3b3be5 ∷ 0x3fdfff992a5c4295 ∷ [])
 
--- 1/2, 3/2 and 5
-abbrev pub half : Float
-half = float 0x3fe0000000000000
-
+-- 3/2 and 5
 abbrev pub threeHalves : Float
 threeHalves = float 0x3ff8000000000000
 
@@ -48,6 +46,7 @@ millsOf z = horner millsTable ((z ⊖ five) ⊘ (z ⊕ five)) ⊘ (z ⊕ threeHa
 abbrev pub clamped : Float → Float
 clamped t = cond (lt plusZero t) (cond (lt t half) t half) plusZero
 
+-- The tail beyond a z that is not below 0.
 unfoldable pub halfTail : Float → Float
 halfTail z = clamped (expOf (neg half ⊗ (z ⊗ z)) ⊗ millsOf z)
 
@@ -59,6 +58,7 @@ tailBeyond z = cond (ne z z) z (cond (lt z plusZero) (one ⊖ halfTail (neg z)) 
 abbrev pub standardized : NormalLaw → Float → Float
 standardized law x = (x ⊖ law .mean) ⊘ sqrtOf (law .variance)
 
+-- P(X > x) and P(X ≤ x)
 unfoldable pub upperTail : NormalLaw → Float → Float
 upperTail law x = tailBeyond (standardized law x)
 
