@@ -12,7 +12,7 @@ for tool in "${RUSTC:-rustc}" "${CC:-cc}" python3; do
     command -v "$tool" >/dev/null || { echo "measure.sh: no $tool on the PATH" >&2; exit 1; }
 done
 echo '#include <mpfr.h>' | "${CC:-cc}" -E - >/dev/null 2>&1 || { echo "measure.sh: no mpfr.h (Debian: apt-get install libmpfr-dev)" >&2; exit 1; }
-python3 $here/port.py $out "${RUSTC:-rustc}"
+python3 $here/port.py elementary $out "${RUSTC:-rustc}"
 "${RUSTC:-rustc}" --edition 2021 -O --crate-type staticlib -C panic=abort -L $out --extern elementary -o $out/libport.a $here/port.rs
 "${CC:-cc}" -O2 -ffp-contract=off -Wall -Wextra -Wno-missing-field-initializers -o $out/measure $here/measure.c $out/libport.a -lmpfr -lgmp -lpthread -ldl -lm
 exec $out/measure "$points"

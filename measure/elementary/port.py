@@ -1,7 +1,7 @@
 #!/usr/bin/env python3
-"""Compiles the port's crate `elementary`, and what it stands on, as Rust libraries: the very .rt sources, clauses cut out.
+"""Compiles a crate of the port, and what it stands on, as Rust libraries: the very .rt sources, clauses cut out.
 
-Usage: port.py OUT RUSTC [FLAG..]      writes OUT/libCRATE.rlib for each crate, by RUSTC with these flags
+Usage: port.py CRATE OUT RUSTC [FLAG..]      writes OUT/libNAME.rlib for each, by RUSTC with these flags
 """
 import os
 import re
@@ -11,8 +11,6 @@ import sys
 ROOT = os.path.join(os.path.dirname(os.path.abspath(__file__)), "..", "..")
 sys.path.insert(0, os.path.join(ROOT, "oracle", "tools"))
 import strip  # noqa: E402  (its place is known only now)
-
-CRATE = "elementary"
 
 
 def fail(message):
@@ -53,14 +51,14 @@ def compile_library(out, rustc, name, root, below):
 
 
 def main(words):
-    if len(words) < 2:
-        print("usage: port.py OUT RUSTC [FLAG..]", file=sys.stderr)
+    if len(words) < 3:
+        print("usage: port.py CRATE OUT RUSTC [FLAG..]", file=sys.stderr)
         sys.exit(2)
-    out, rustc = words[0], words[1:]
+    out, rustc = words[1], words[2:]
     os.makedirs(out, exist_ok=True)
     compile_library(out, rustc, "rattle_std", os.path.join(ROOT, "oracle", "standins", "rattle_std.rs"), [])
     made = ["rattle_std"]
-    for crate in crates_below(CRATE):
+    for crate in crates_below(words[0]):
         try:
             files = strip.rust_of_crate(os.path.join(ROOT, "crates", crate))
         except strip.StripError as error:

@@ -11,7 +11,7 @@ speed=target/speed
 measure/speed/setup.sh $speed
 
 # The port by rustc, and by the kit: a repository of its own, with the crates below `elementary` and one that gives them C names.
-python3 measure/elementary/port.py $speed/port $speed/rustc
+python3 measure/elementary/port.py elementary $speed/port $speed/rustc
 kit=$speed/kit
 mkdir -p $kit/crates/counted/src
 sed -n '/^try_/d; p' crates.txt | sed '/^elementary:/q' >$kit/crates.txt
