@@ -14,13 +14,17 @@ enum { PRECISION = 192 };
 typedef int (*Exact)(mpfr_t, const mpfr_t, mpfr_rnd_t);
 
 // The bounds in units in the last place that measure.sh holds the port to. Each is what was measured, rounded up.
-#define EXP_BOUND 0.85
+#define EXP_BOUND 0.75
+#define EXP_SUBNORMAL_BOUND 0.85  // the result is rounded a second time
 #define LN_BOUND 0.90
 #define LN_1P_BOUND 0.90
 #define ATAN_BOUND 0.88
 #define SIN_BOUND 0.85
 // The tails' bound, absolute.
 #define TAIL_BOUND 3e-16
+
+// Below it the result of exp is subnormal: 1022 ln 2.
+#define EXP_SUBNORMAL -0x1.6232bdd7abcd2p9
 
 static inline double of_bits(uint64_t b) { double x; memcpy(&x, &b, 8); return x; }
 static inline uint64_t bits_of(double x) { uint64_t b; memcpy(&b, &x, 8); return b; }

@@ -75,17 +75,24 @@ static void finish(Row *row) {
     }
 }
 
-static void exp_row(long points) {
-    Row row = {"exp", "-745.2 to 709.8", port_exp, mpfr_exp, EXP_BOUND, -745.2, 709.8};
-    for (long i = 0; i < points; i++) at(&row, exp_point(i));
+static void exp_points(Row *row, long points) {
+    for (long i = 0; i < points; i++) at(row, row->low + (row->high - row->low) * uniform(0, 1));
+    for (long i = 0; i < points; i++) at(row, exp_point(i));
     for (int k = -1075; k <= 1024; k++) {                          // seams of x = k ln 2 + r, and r near 0
-        around(&row, (k + 0.5) * M_LN2, 30);
-        around(&row, k * M_LN2, 30);
+        around(row, (k + 0.5) * M_LN2, 30);
+        around(row, k * M_LN2, 30);
     }
-    around(&row, -745.13321910194122, 100);
-    around(&row, -708.39641853226408, 100);
-    around(&row, 709.78271289338397, 100);
-    finish(&row);
+    around(row, -745.13321910194122, 100);
+    around(row, EXP_SUBNORMAL, 100);
+    around(row, 709.78271289338397, 100);
+    finish(row);
+}
+
+static void exp_rows(long points) {
+    Row row = {"exp", "to 709.8, results normal", port_exp, mpfr_exp, EXP_BOUND, EXP_SUBNORMAL, 709.8};
+    Row subnormal = {"exp", "from -745.2, results subnormal", port_exp, mpfr_exp, EXP_SUBNORMAL_BOUND, -745.2, EXP_SUBNORMAL};
+    exp_points(&row, points);
+    exp_points(&subnormal, points);
 }
 
 static void ln_row(long points) {
@@ -210,7 +217,7 @@ int main(int count, char **words) {
     }
     mpfr_inits2(PRECISION, argument, truth, distance, (mpfr_ptr)0);
     printf("| function | arguments | points | max error (ulp) | at | its bits | correctly rounded | bound |\n|---|---|---|---|---|---|---|---|\n");
-    exp_row(points);
+    exp_rows(points);
     ln_row(points);
     ln_1p_row(points);
     ln_1p_below_row(points);

@@ -10,12 +10,17 @@ import sys
 
 ROOT = os.path.join(os.path.dirname(os.path.abspath(__file__)), "..", "..")
 sys.path.insert(0, os.path.join(ROOT, "oracle", "tools"))
-import strip  # noqa: E402  (its place is known only now)
 
 
 def fail(message):
     print("port.py: " + message, file=sys.stderr)
     sys.exit(1)
+
+
+try:
+    import strip
+except ImportError:
+    fail("no oracle/tools/strip.py, which cuts the clauses out")
 
 
 def crates_below(name):

@@ -57,14 +57,22 @@ static void around(const Function *f, double x) {
     for (int i = -NEAR; i <= NEAR; i++) at(f, of_bits(bits_of(x) + (uint64_t)(int64_t)i));
 }
 
+static void exp_at(double x) {
+    const Function normal = {EXP, mpfr_exp, EXP_BOUND}, subnormal = {EXP, mpfr_exp, EXP_SUBNORMAL_BOUND};
+    at(x < EXP_SUBNORMAL ? &subnormal : &normal, x);
+}
+
+static void exp_around(double x) {
+    for (int i = -NEAR; i <= NEAR; i++) exp_at(of_bits(bits_of(x) + (uint64_t)(int64_t)i));
+}
+
 static void exp_lines(void) {
-    const Function f = {EXP, mpfr_exp, EXP_BOUND};
-    for (int i = 0; i < DRAWN; i++) at(&f, exp_point(i));
-    for (int k = -1075; k <= 1024; k += 139) around(&f, (k + 0.5) * M_LN2);
-    around(&f, -745.13321910194122);
-    around(&f, -708.39641853226408);
-    around(&f, 709.78271289338397);
-    at(&f, 1);
+    for (int i = 0; i < DRAWN; i++) exp_at(exp_point(i));
+    for (int k = -1075; k <= 1024; k += 139) exp_around((k + 0.5) * M_LN2);
+    exp_around(-745.13321910194122);
+    exp_around(EXP_SUBNORMAL);
+    exp_around(709.78271289338397);
+    exp_at(1);
 }
 
 static void ln_lines(void) {
