@@ -24,6 +24,7 @@ apt-get update -qq
 apt-get install -y -qq $tools >/dev/null
 
 # Rust, by an apt of its own that knows both processors.
+status=
 eval "$(apt-config shell status Dir::State::status/f)"
 mkdir -p "$dir/state/lists/partial" "$dir/cache/archives/partial" "$dir/debs" "$dir/root"
 private() {
@@ -34,7 +35,7 @@ private apt-get update
 cd "$dir/debs"
 for p in rustc-web libstd-rust-web-dev libstd-rust-web-dev:amd64 libllvm22 libstd-rust-web-1.96; do private apt-get download "$p"; done
 for d in "$dir"/debs/*.deb; do dpkg -x "$d" "$dir/root"; done
-libraries=$(find "$dir/root" -name 'libLLVM*.so*' -o -name 'librustc_driver*.so' | xargs -n 1 dirname | sort -u | tr '\n' ':')
+libraries=$(find "$dir/root" \( -name 'libLLVM*.so*' -o -name 'librustc_driver*.so' \) -exec dirname {} \; | sort -u | tr '\n' ':')
 
 # The C library's libm.a is a linker script with paths of its own, which the cross linker can't follow: the library itself goes first.
 mkdir -p "$dir/fix"
