@@ -6,12 +6,11 @@ use Prim.Native.Nat.{ℕ, _*_, _<_}
 use lib.Dec.{ltb}
 use lib.Ieee.{Float}
 use borrow.Author.Tests.{ltb-true}
-use Rattle.floats.specs.Words.{_⊗_, plusZero}
-use Rattle.floats.specs.Sums.{sumOf, sumProducts}
-use Rattle.floats.specs.Tables.{table}
+use Rattle.floats.specs.Words.{plusZero}
+use Rattle.floats.specs.Sums.{sumProducts}
 use Rattle.floats.proofs.ListLaws.{sum-same}
 use Rattle.design.specs.Matrix.{row, matrix, zeroRow}
-use Rattle.design.specs.Law.{columnAt, differenceOf, crossOf, squaresOf}
+use Rattle.design.specs.Law.{crossOf, squaresOf}
 use Rattle.design.proofs.DifferenceLaws.{Differences, table-same}
 
 -- what is guarded by i < k has only to agree there

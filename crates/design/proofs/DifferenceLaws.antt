@@ -1,5 +1,5 @@
 -- Two columns that agree below n have the same differences; and a column stored at its place in a run leaves the ones before it as they were. Assumes nothing.
-use mathlib.Core.Path.{_≡_, refl, sym, ap, _∙_}
+use mathlib.Core.Path.{_≡_, refl, _∙_}
 use mathlib.Core.Bool.{Bool, true, false, cond}
 use mathlib.Core.List.{List, _++_}
 use mathlib.Core.Logic.{⊎-elim}
@@ -7,11 +7,11 @@ use Prim.Native.Nat.{ℕ, zero, suc, _+_, _-_, _*_, _≤_, _<_}
 use native.Mathlib.Nat.{eq-or-lt-of-le}
 use native.Mathlib.Omega.{arith}
 use lib.Dec.{ltb}
-use lib.ListN.{length, take, drop, getD, length-take, length-append, List·getD-append}
+use lib.ListN.{length, take, drop, List·getD-append}
 use lib.Seq.{length-take-le, getD-take, getD-append-add}
 use lib.Ieee.{Float, nan}
 use borrow.Author.Tests.{ltb-true}
-use Rattle.floats.specs.Words.{_⊕_, _⊖_, _‼_, plusZero}
+use Rattle.floats.specs.Words.{_⊕_, _⊖_, _‼_}
 use Rattle.floats.specs.Tables.{table, part, withPart}
 use Rattle.floats.proofs.ListLaws.{row-in, length-part, getD-part}
 use Rattle.floats.proofs.TableLaws.{length-table, getD-table}

@@ -7,13 +7,12 @@ use lib.ListN.{set}
 use lib.Ieee.{Float}
 use Rattle.floats.specs.Words.{_⊘_}
 use Rattle.floats.specs.Turns.{turns}
-use Rattle.floats.proofs.TurnLaws.{turns-none, turns-more}
 use Rattle.design.specs.Matrix.{Matrix, rowAt, entry, zeroRow, zeroMatrix}
-use Rattle.design.specs.Factor.{restOf, leftTo, leftOf, withRoot, fails, factorOf, failsAt, pivotsOf}
-use mathlib.Core.Bool.{true, false}
+use Rattle.design.specs.Factor.{restOf, leftTo, leftOf, withRoot, factorOf, failsAt, pivotsOf}
+use mathlib.Core.Bool.{true}
 use Prim.Native.Nat.{_<_}
 use Rattle.floats.specs.Search.{firstWhere}
-use Rattle.floats.specs.declared.search.Found.the-variants.{At, Nothing}
+use Rattle.floats.specs.declared.search.Found.the-variants.{Nothing}
 use Rattle.floats.proofs.FirstLaws.{first-at}
 use Rattle.design.specs.declared.Pivots.the-variants.{Hold, Fails}
 

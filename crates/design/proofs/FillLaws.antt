@@ -1,6 +1,6 @@
 -- A fill, one store after another, is a table: so the rows and matrices that the code fills are those of specs/Matrix.antt. One idea: a number is right once it is stored, and later stores go elsewhere. Assumes nothing.
-use mathlib.Core.Path.{_≡_, refl, ap, sym, _∙_}
-use mathlib.Core.Bool.{Bool, true, false, cond}
+use mathlib.Core.Path.{_≡_, refl, sym, _∙_}
+use mathlib.Core.Bool.{cond}
 use mathlib.Core.List.{List, []}
 use Prim.Native.Nat.{ℕ, zero, suc, _+_, _≤_, _<_}
 use native.Mathlib.Numerals.{add-one}
@@ -11,10 +11,10 @@ use lib.ListN.{length, getD, set, replicate, length-set, length-replicate, getD-
 use lib.Seq.{getD-set-same, getD-set-other, ext-getD}
 use lib.Ieee.{Float, nan}
 use borrow.Author.Tests.{lt-ltb, le-ltb}
-use Rattle.floats.specs.Words.{_‼_, plusZero}
+use Rattle.floats.specs.Words.{plusZero}
 use Rattle.floats.specs.Tables.{table}
 use Rattle.floats.proofs.TableLaws.{length-table, getD-table}
-use Rattle.design.specs.Matrix.{Matrix, rowAt, entry, zeroRow, zeroMatrix, row, matrix}
+use Rattle.design.specs.Matrix.{entry, zeroRow, zeroMatrix, row, matrix}
 
 -- l with entry 0, entry 1, .., entry (k - 1) stored in its first k places
 unfoldable pub fill : {A : Type 0} → (ℕ → A) → ℕ → List A → List A

@@ -1,8 +1,15 @@
+-- For callers.
 pub mod SheetLaws
-pub mod FactorLaws
+pub mod Bounds
+pub mod Early
+pub mod Single
+pub mod Worked
+-- For the proofs of this crate.
 pub mod FillLaws
+pub mod FactorLaws
 pub mod InverseLaws
-pub mod TraceLaws
-pub mod EveryLaws
 pub mod DifferenceLaws
 pub mod CrossLaws
+pub mod TraceLaws
+pub mod EveryLaws
+pub mod NotBelow

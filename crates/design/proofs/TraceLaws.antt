@@ -4,7 +4,7 @@ use Prim.Native.Nat.{ℕ, _≤_}
 use Rattle.floats.specs.Words.{_⊗_}
 use Rattle.floats.specs.Sums.{sumOf}
 use Rattle.floats.proofs.ListLaws.{sum-same}
-use Rattle.design.specs.Matrix.{Matrix, entry, matrix, productOf, traceOf}
+use Rattle.design.specs.Matrix.{Matrix, entry, productOf, traceOf}
 use Rattle.design.proofs.FillLaws.{entry-matrix}
 
 pub trace-product : (k : ℕ) (a b : Matrix) → k ≤ 8 → traceOf k (productOf k a b) ≡ sumOf k (λ i. sumOf k (λ m. entry a i m ⊗ entry b m i))

@@ -28,7 +28,7 @@ restOf x n i j l-i l-j = gram x n i j ⊖ sumOf j (λ m. l-i ‼ m ⊗ l-j ‼ m
 
 -- the first j numbers of row i of the factor, given the rows above it: each from those before it
 unfoldable pub leftTo : List Float → ℕ → Matrix → ℕ → ℕ → List Float
-leftTo x n l i j = turns j (λ j l-i. set l-i j (restOf x n i j l-i (rowAt l j) ⊘ entry l j j)) zeroRow
+leftTo x n l i j = turns j (λ c l-i. set l-i c (restOf x n i c l-i (rowAt l c) ⊘ entry l c c)) zeroRow
 
 -- row i left of the diagonal
 abbrev pub leftOf : List Float → ℕ → Matrix → ℕ → List Float

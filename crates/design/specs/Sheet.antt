@@ -2,7 +2,7 @@
 -- The k columns of n rows are one run x, column after column: row t of column j is x ‼ (j * n + t).
 -- Definitions only. Assumes nothing.
 use Prim.Native.Nat.{ℕ, _*_}
-use mathlib.Core.Bool.{Bool, cond}
+use mathlib.Core.Bool.{Bool, true, false, cond}
 use mathlib.Core.List.{List}
 use lib.Dec.{ltb, leb, eqb}
 use lib.ListN.{length}
@@ -55,6 +55,10 @@ columnsPlace WrongLength = 0
 columnsPlace (NotFinite t) = t
 columnsPlace Sound = 0
 
--- refusal 10, place 0: no more rows than columns
+-- no more rows than columns: refusal 10, place 0
 abbrev pub tooFewRows : ℕ → ℕ → Bool
 tooFewRows n k = leb n k
+
+abbrev pub rowsNumber : Bool → ℕ
+rowsNumber true = 10
+rowsNumber false = 0

@@ -5,7 +5,6 @@ ghost use lib.ListN.{length};
 ghost use Rattle.floats.specs.Sums.{sumOf};
 ghost use Rattle.floats.specs.Words.{_⊗_, _‼_};
 ghost use Rattle.design.specs.Factor.{leftOf};
-
 use super::traces::column_products;
 
 // The first j products of two rows, summed.

@@ -1,16 +1,14 @@
 // What the columns of a sheet alone decide, short of eigenvalues: its size, the checks of its columns,
 // (X'X)^-1 by Cholesky, and the normal law of the Durbin-Watson statistic with its p.
 // The k columns of n rows are one run, column after column; residuals do not appear.
-
 mod cholesky;
 mod difference;
 mod lower;
 mod traces;
 
 ghost use mathlib.Core.Path.{_≡_};
-ghost use Prim.Native.Nat.{_*_, _≤_, _<_};
+ghost use Prim.Native.Nat.{_*_, _≤_};
 ghost use lib.ListN.{length};
-ghost use lib.Ieee.{Float};
 ghost use Rattle.floats.specs.Words.{_‼_};
 ghost use Rattle.floats.specs.Tables.{table};
 ghost use Rattle.design.specs.Sheet.{sizeOf, runOf, columnsOf, tooFewRows};
@@ -19,7 +17,6 @@ ghost use Rattle.design.specs.Factor.{pivotsOf, factorOf, rowsMade};
 ghost use Rattle.design.specs.Inverse.{inverseFrom};
 ghost use Rattle.design.specs.Difference.{differenceAt};
 ghost use Rattle.design.specs.Law.{lawFrom, lawAnswer, normalP};
-
 use elementary::NormalLaw;
 use elementary::lower_tail;
 use elementary::upper_tail;
@@ -44,6 +41,7 @@ pub enum SizeAnswer {
 
 impl SheetSize {
     pub const MAX_ROWS: usize = 256;
+
     pub const MAX_COLUMNS: usize = 8;
 
     pub fn new(n: usize, k: usize) -> SizeAnswer
@@ -55,7 +53,10 @@ impl SheetSize {
         if k > SheetSize::MAX_COLUMNS {
             return SizeAnswer::TooManyColumns;
         }
-        SizeAnswer::Fits(SheetSize { rows: n, columns: k })
+        SizeAnswer::Fits(SheetSize {
+            rows: n,
+            columns: k,
+        })
     }
 }
 
@@ -105,14 +106,15 @@ pub fn too_few_rows(n: usize, k: usize) -> bool
     n <= k
 }
 
-// Whether all pivots hold, or the first column whose pivot fails: refusal 11.
+// Whether all pivots hold, or the first column whose pivot fails, refusal 11. A pivot that is NaN holds.
 pub enum Pivots {
     Hold,
     Fails(usize),
 }
 
 const TOLERANCE: f64 = 1e-12;
-const LEAST_NORMAL: f64 = 2.2250738585072014e-308;
+
+const LEAST_NORMAL: f64 = 2.2250738585072014e-308; // 2^-1022
 
 // The Cholesky factor of X'X by rows, as far as the pivots hold; +0 in the rows beyond.
 pub fn factor(columns: &[f64], n: usize, k: usize, l: &mut [[f64; 8]; 8]) -> Pivots
@@ -172,7 +174,7 @@ pub fn diff_matrix_times(v: &[f64], av: &mut [f64])
     }
 }
 
-// The exact null mean and variance of the statistic, by traces. A X is worked out once, in room that fits.
+// The statistic's exact null mean and variance, by traces. A X is worked out once; most sheets need little room for it.
 pub fn normal_law(columns: &[f64], n: usize, k: usize, inverse: [[f64; 8]; 8]) -> NormalLaw
     requires { ⌜ (n ≤ 256) × (k ≤ 8) × (k * n ≡ length (now columns)) ⌝ }
     ensures { λ r. ⌜ r ≡ lawFrom (now (columns .entry)) n k inverse ⌝ }
@@ -185,18 +187,11 @@ pub fn normal_law(columns: &[f64], n: usize, k: usize, inverse: [[f64; 8]; 8]) -
     traces::law_in(columns, n, k, &inverse, &mut room)
 }
 
-// Whether the law serves, or refusal 13 of stage 5, or 14.
+// Whether the law serves; else refusal 13, place 5, or refusal 14.
 pub enum LawAnswer {
     Usable(NormalLaw),
     NotFinite,
     NotSpread,
-}
-
-// Of autocorrelation: positive, negative, or either.
-pub enum Alternative {
-    Greater,
-    Less,
-    TwoSided,
 }
 
 pub fn check_law(law: NormalLaw) -> LawAnswer
@@ -212,6 +207,13 @@ pub fn check_law(law: NormalLaw) -> LawAnswer
         return LawAnswer::Usable(law);
     }
     LawAnswer::NotSpread
+}
+
+// Of autocorrelation: positive, negative, or either.
+pub enum Alternative {
+    Greater,
+    Less,
+    TwoSided,
 }
 
 // p by the normal law. With fewer than 5 rows p is 1 and no law is worked out: that is the caller's.

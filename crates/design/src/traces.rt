@@ -6,7 +6,6 @@ ghost use Rattle.floats.specs.Sums.{sumOf, sumProducts};
 ghost use Rattle.floats.specs.Words.{_⊗_};
 ghost use Rattle.design.specs.Matrix.{entry, row, matrix, productOf, traceOf};
 ghost use Rattle.design.specs.Law.{count, lawBy, lawFrom};
-
 use elementary::NormalLaw;
 
 // The products of column i of u and column j of v, summed: entry (i, j) of U' V.
@@ -125,7 +124,13 @@ fn law_by(b: f64, c: f64, bb: f64, n: usize, k: usize) -> NormalLaw
 }
 
 // The law of the columns, with room for A X.
-pub fn law_in(columns: &[f64], n: usize, k: usize, inverse: &[[f64; 8]; 8], room: &mut [f64]) -> NormalLaw
+pub fn law_in(
+    columns: &[f64],
+    n: usize,
+    k: usize,
+    inverse: &[[f64; 8]; 8],
+    room: &mut [f64],
+) -> NormalLaw
     requires { ⌜ (n ≤ 256) × (k ≤ 8) × (k * n ≤ length (now columns)) × (k * n ≤ length (now room)) ⌝ }
     ensures { λ r. ⌜ r ≡ lawFrom (now (columns .entry)) n k (now (inverse .entry)) ⌝ }
 {

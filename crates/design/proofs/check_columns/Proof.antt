@@ -1,31 +1,15 @@
+-- Each case of the size's answer is a case of the definition; a size that fits is within the limits (SheetLaws). Assumes nothing.
 use mathlib.Core.Path.{sym, _∙_}
 use borrow.Author.Tests.{eq-eqb, ne-eqb}
 use Rattle.design.proofs.SheetLaws.{fits-within}
 use borrow.Author.Needs.{needs}
 use Rattle.design.proofs.check_columns.Statement.{statement}
 use Rattle.design.proofs.check_columns.Tie as tie
-use Rattle.design.proofs.check_columns.Reads as reads
-use Rattle.design.proofs.check_columns.Lts as lts
-use Rattle.design.proofs.SheetSize.new.Reads as new-reads
-use Rattle.design.proofs.check_run.Reads as check-run-reads
-
-returns : tie.Need-returns
-returns c = simp (eq-eqb _ _ (c .if1 .taken))
-
-new-requires : tie.Need-new-requires
-new-requires c κs = search needs
-
-enum-told : tie.Need-enum-told
-enum-told c = search needs
-
-enum-told-2 : tie.Need-enum-told-2
-enum-told-2 c = search needs
-
-enum-known-answer : tie.Need-enum-known-answer
-enum-known-answer c = search needs
 
 check-run-requires : tie.Need-check-run-requires
-check-run-requires c κs = let w = fits-within (c .before .before .before .before .before .before .args .n) (c .before .before .before .before .before .before .args .k) (sym (c .before .before .before .new .ensures) ∙ c .before .answer .given .1) in rw (w .2) (w .0, w .1)
+check-run-requires c κs =
+    let a = c .before .before .before .before .before .before .args in
+    let w = fits-within (a .n) (a .k) (sym (c .before .before .before .new .ensures) ∙ c .before .answer .given .1) in rw (w .2) (w .0, w .1)
 
 returns-2 : tie.Need-returns-2
 returns-2 c = simp (ne-eqb _ _ (c .before .before .before .if1 .left)) (rw (← c .before .before .new .ensures, c .enum-told .given .1))
@@ -39,13 +23,5 @@ returns-4 c = simp (ne-eqb _ _ (c .before .before .before .before .before .if1 .
 pub check-columns-spec : {M : Type 1} → statement M
 check-columns-spec =
     tie.close
-    (tie.spec
-    returns
-    new-requires
-    enum-told
-    enum-told-2
-    enum-known-answer
-    check-run-requires
-    returns-2
-    returns-3
-    returns-4)
+    (tie.spec (λ c. simp (eq-eqb _ _ (c .if1 .taken))) (λ c κs. search needs) (λ c. search needs)
+    (λ c. search needs) (λ c. search needs) check-run-requires returns-2 returns-3 returns-4)

@@ -1,21 +1,10 @@
 use borrow.Author.Tests.{not-true, not-false}
-use lib.Ieee.Scale.{finite}
-use mathlib.Core.Path.{sym, _∙_}
 use borrow.Author.Needs.{needs}
 use Rattle.design.proofs.check_law.Statement.{statement}
 use Rattle.design.proofs.check_law.Tie as tie
-use Rattle.design.proofs.check_law.Reads as reads
-use Rattle.design.proofs.check_law.Lts as lts
-use Rattle.floats.proofs.signs.is_finite.Reads as is-finite-reads
-
-is-finite-requires : tie.Need-is-finite-requires
-is-finite-requires c κs = search needs
 
 returns : tie.Need-returns
 returns c = rw (← c .before .is-finite .ensures, not-true (c .before .is-finite .result) (c .if1 .taken))
-
-is-finite-requires-2 : tie.Need-is-finite-requires-2
-is-finite-requires-2 c κs = search needs
 
 returns-2 : tie.Need-returns-2
 returns-2 c = rw (← c .before .before .before .is-finite .ensures, not-false (c .before .before .before .is-finite .result) (c .before .before .if1 .left), ← c .before .is-finite2 .ensures, not-true (c .before .is-finite2 .result) (c .if2 .taken))
@@ -29,4 +18,4 @@ returns-4 c = rw (← c .before .before .before .before .before .is-finite .ensu
 pub check-law-spec : {M : Type 1} → statement M
 check-law-spec =
     tie.close
-    (tie.spec is-finite-requires returns is-finite-requires-2 returns-2 returns-3 returns-4)
+    (tie.spec (λ c κs. search needs) returns (λ c κs. search needs) returns-2 returns-3 returns-4)

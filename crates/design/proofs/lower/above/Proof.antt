@@ -2,17 +2,14 @@ use Rattle.floats.specs.Sums.{sumOf}
 use Rattle.floats.specs.Words.{_⊗_}
 use Rattle.design.specs.Matrix.{entry}
 use lib.Ieee.{neg, ofBits}
-use Prim.Native.Nat.{ℕ, zero, suc, _≤_, _<_, _-_, _*_, _+_}
+use Prim.Native.Nat.{_≤_, _-_, _+_}
 use native.Mathlib.Omega.{arith}
 use native.Mathlib.Numerals.{add-one}
 use native.Mathlib.Nat.{le-antisymm}
-use mathlib.Core.Path.{_≡_, refl, ap, sym, _∙_}
-use lib.ListN.{length, getD, set, length-set}
+use mathlib.Core.Path.{_≡_, refl}
 use borrow.Author.Needs.{needs}
 use Rattle.design.proofs.lower.above.Statement.{statement}
 use Rattle.design.proofs.lower.above.Tie as tie
-use Rattle.design.proofs.lower.above.Reads as reads
-use Rattle.design.proofs.lower.above.Lts as lts
 
 abbrev Inv-loop : tie.InvT-loop
 Inv-loop l r i j s₀ m₀ m-end s m = (m ≤ i - j) × (s ≡ sumOf m (λ m. entry l i (j + m) ⊗ entry r (j + m) j))
@@ -20,48 +17,9 @@ Inv-loop l r i j s₀ m₀ m-end s m = (m ≤ i - j) × (s ≡ sumOf m (λ m. en
 abbrev μ-loop : tie.MeasureT-loop
 μ-loop l r i j s₀ m₀ m-end s m = i - j - m
 
-sub-m-end : tie.Need-sub-m-end Inv-loop μ-loop
-sub-m-end c = search needs
-
 loop-holds : tie.Need-loop-holds Inv-loop μ-loop
 unfolding sumOf neg ofBits
 loop-holds c = (omega arith, refl)
-
-add-s : tie.Need-add-s Inv-loop μ-loop
-add-s c = search needs
-
-mul-s : tie.Need-mul-s Inv-loop μ-loop
-mul-s c = search needs
-
-mul-s-2 : tie.Need-mul-s-2 Inv-loop μ-loop
-mul-s-2 c = search needs
-
-index-1-s : tie.Need-index-1-s Inv-loop μ-loop
-index-1-s c = search needs
-
-index-2-s : tie.Need-index-2-s Inv-loop μ-loop
-index-2-s c = search needs
-
-add-s-2 : tie.Need-add-s-2 Inv-loop μ-loop
-add-s-2 c = search needs
-
-mul-s-3 : tie.Need-mul-s-3 Inv-loop μ-loop
-mul-s-3 c = search needs
-
-mul-s-4 : tie.Need-mul-s-4 Inv-loop μ-loop
-mul-s-4 c = search needs
-
-index-1-s-2 : tie.Need-index-1-s-2 Inv-loop μ-loop
-index-1-s-2 c = search needs
-
-index-2-s-2 : tie.Need-index-2-s-2 Inv-loop μ-loop
-index-2-s-2 c = search needs
-
-add-m : tie.Need-add-m Inv-loop μ-loop
-add-m c = search needs
-
-loop-less : tie.Need-loop-less Inv-loop μ-loop
-loop-less c = search needs
 
 loop-again : tie.Need-loop-again Inv-loop μ-loop
 unfolding sumOf
@@ -73,22 +31,7 @@ returns c = cc (le-antisymm (c .before .loop .inv .0) (c .loop-test .left))
 pub above-spec : {M : Type 1} → statement M
 above-spec =
     tie.close
-    (tie.spec
-    Inv-loop
-    μ-loop
-    sub-m-end
-    loop-holds
-    add-s
-    mul-s
-    mul-s-2
-    index-1-s
-    index-2-s
-    add-s-2
-    mul-s-3
-    mul-s-4
-    index-1-s-2
-    index-2-s-2
-    add-m
-    loop-less
-    loop-again
-    returns)
+    (tie.spec Inv-loop μ-loop (λ c. search needs) loop-holds (λ c. search needs) (λ c. search needs)
+    (λ c. search needs) (λ c. search needs) (λ c. search needs) (λ c. search needs) (λ c. search needs)
+    (λ c. search needs) (λ c. search needs) (λ c. search needs) (λ c. search needs) (λ c. search needs)
+    loop-again returns)

@@ -5,15 +5,12 @@ use lib.Ieee.{inFloat}
 use borrow.Author.Needs.{needs}
 use Rattle.design.proofs.traces.count.Statement.{statement}
 use Rattle.design.proofs.traces.count.Tie as tie
-use Rattle.design.proofs.traces.count.Reads as reads
-use Rattle.design.proofs.traces.count.Lts as lts
 
 int-to-float-result : tie.Need-int-to-float-result
 unfolding inFloat
 int-to-float-result c = le→leb (c .before .args .n) (2 ^ 53) (omega arith)
 
-returns : tie.Need-returns
-returns c = search needs
-
 pub count-spec : {M : Type 1} → statement M
-count-spec = tie.close (tie.spec int-to-float-result returns)
+count-spec =
+    tie.close
+    (tie.spec int-to-float-result (λ c. search needs))

@@ -1,42 +1,18 @@
 use Rattle.floats.specs.Sums.{sumProducts}
 use Rattle.design.specs.Matrix.{zeroMatrix, row}
 use Rattle.design.proofs.FillLaws.{fill, fill-none, fill-more, fill-matrix}
-use Prim.Native.Nat.{ℕ, zero, suc, _≤_, _<_, _-_, _*_, _+_}
+use Prim.Native.Nat.{_≤_, _-_, _*_}
 use native.Mathlib.Omega.{arith}
-use native.Mathlib.Numerals.{add-one}
-use native.Mathlib.Nat.{le-antisymm}
-use mathlib.Core.Path.{_≡_, refl, ap, sym, _∙_}
-use lib.ListN.{length, getD, set, length-set}
+use mathlib.Core.Path.{_≡_, sym}
 use borrow.Author.Needs.{needs}
 use Rattle.design.proofs.traces.cross.Statement.{statement}
 use Rattle.design.proofs.traces.cross.Tie as tie
-use Rattle.design.proofs.traces.cross.Reads as reads
-use Rattle.design.proofs.traces.cross.Lts as lts
-use Rattle.design.proofs.traces.cross_row.Reads as cross-row-reads
 
 abbrev Inv-loop : tie.InvT-loop
 Inv-loop u v n k c₀ i₀ c i = (i ≤ k) × (c ≡ fill (λ i. row k (λ j. sumProducts u (i * n) v (j * n) n)) i zeroMatrix)
 
 abbrev μ-loop : tie.MeasureT-loop
 μ-loop u v n k c₀ i₀ c i = k - i
-
-loop-holds : tie.Need-loop-holds Inv-loop μ-loop
-loop-holds c = (omega arith, sym (fill-none _ _))
-
-cross-row-requires : tie.Need-cross-row-requires Inv-loop μ-loop
-cross-row-requires c κs = search needs
-
-mul-c : tie.Need-mul-c Inv-loop μ-loop
-mul-c c = search needs
-
-array-set-from-c : tie.Need-array-set-from-c Inv-loop μ-loop
-array-set-from-c c = search needs
-
-add-i : tie.Need-add-i Inv-loop μ-loop
-add-i c = search needs
-
-loop-less : tie.Need-loop-less Inv-loop μ-loop
-loop-less c = search needs
 
 loop-again : tie.Need-loop-again Inv-loop μ-loop
 loop-again c = (omega arith, rw (c .cross-row .ensures, c .before .before .loop .inv .1) (sym (fill-more _ (c .before .before .loop .i) zeroMatrix)))
@@ -47,14 +23,5 @@ returns c = let h : c .before .loop .i ≡ c .before .before .before .before .ar
 pub cross-spec : {M : Type 1} → statement M
 cross-spec =
     tie.close
-    (tie.spec
-    Inv-loop
-    μ-loop
-    loop-holds
-    cross-row-requires
-    mul-c
-    array-set-from-c
-    add-i
-    loop-less
-    loop-again
-    returns)
+    (tie.spec Inv-loop μ-loop (λ c. (omega arith, sym (fill-none _ _))) (λ c κs. search needs)
+    (λ c. search needs) (λ c. search needs) (λ c. search needs) (λ c. search needs) loop-again returns)

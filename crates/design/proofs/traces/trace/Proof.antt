@@ -1,18 +1,14 @@
 use Rattle.floats.specs.Sums.{sumOf}
-use Rattle.floats.specs.Words.{_⊗_}
 use Rattle.design.specs.Matrix.{entry}
 use lib.Ieee.{neg, ofBits}
-use Prim.Native.Nat.{ℕ, zero, suc, _≤_, _<_, _-_, _*_, _+_}
+use Prim.Native.Nat.{_≤_, _-_}
 use native.Mathlib.Omega.{arith}
 use native.Mathlib.Numerals.{add-one}
 use native.Mathlib.Nat.{le-antisymm}
-use mathlib.Core.Path.{_≡_, refl, ap, sym, _∙_}
-use lib.ListN.{length, getD, set, length-set}
+use mathlib.Core.Path.{_≡_, refl}
 use borrow.Author.Needs.{needs}
 use Rattle.design.proofs.traces.trace.Statement.{statement}
 use Rattle.design.proofs.traces.trace.Tie as tie
-use Rattle.design.proofs.traces.trace.Reads as reads
-use Rattle.design.proofs.traces.trace.Lts as lts
 
 abbrev Inv-loop : tie.InvT-loop
 Inv-loop a k s₀ i₀ s i = (i ≤ k) × (s ≡ sumOf i (λ i. entry a i i))
@@ -24,24 +20,6 @@ loop-holds : tie.Need-loop-holds Inv-loop μ-loop
 unfolding sumOf neg ofBits
 loop-holds c = (omega arith, refl)
 
-mul-s : tie.Need-mul-s Inv-loop μ-loop
-mul-s c = search needs
-
-mul-s-2 : tie.Need-mul-s-2 Inv-loop μ-loop
-mul-s-2 c = search needs
-
-index-1-s : tie.Need-index-1-s Inv-loop μ-loop
-index-1-s c = search needs
-
-index-2-s : tie.Need-index-2-s Inv-loop μ-loop
-index-2-s c = search needs
-
-add-i : tie.Need-add-i Inv-loop μ-loop
-add-i c = search needs
-
-loop-less : tie.Need-loop-less Inv-loop μ-loop
-loop-less c = search needs
-
 loop-again : tie.Need-loop-again Inv-loop μ-loop
 unfolding sumOf
 loop-again c = (omega arith, rw (add-one (c .before .before .loop .i)) (cc))
@@ -52,15 +30,5 @@ returns c = cc (le-antisymm (c .before .loop .inv .0) (c .loop-test .left))
 pub trace-spec : {M : Type 1} → statement M
 trace-spec =
     tie.close
-    (tie.spec
-    Inv-loop
-    μ-loop
-    loop-holds
-    mul-s
-    mul-s-2
-    index-1-s
-    index-2-s
-    add-i
-    loop-less
-    loop-again
-    returns)
+    (tie.spec Inv-loop μ-loop loop-holds (λ c. search needs) (λ c. search needs) (λ c. search needs)
+    (λ c. search needs) (λ c. search needs) (λ c. search needs) loop-again returns)

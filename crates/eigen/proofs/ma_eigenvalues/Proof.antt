@@ -1,0 +1,76 @@
+use mathlib.Core.Path.{_≡_, refl, sym, ap, _∙_, subst}
+use native.Mathlib.Omega.{arith}
+use Prim.Native.Nat.{_*_}
+use mathlib.Core.List.{List}
+use lib.ListN.{take, drop, length-take, length-replicate}
+use lib.Seq.{take-at, drop-at}
+use lib.Ieee.{Float}
+use Rattle.projection.specs.Projection.{product, mamOf}
+use Rattle.projection.proofs.MatrixLaws.{length-symmetric}
+use Rattle.projection.proofs.ProjectionLaws.{mam-symmetric}
+use Rattle.tridiagonal.specs.Matrix.{Symmetric}
+use Rattle.eigen.proofs.SpectrumLaws.{matrix-bad, matrix-good}
+use borrow.Author.Needs.{needs}
+use Rattle.eigen.proofs.ma_eigenvalues.Statement.{statement}
+use Rattle.eigen.proofs.ma_eigenvalues.Tie as tie
+use Rattle.eigen.proofs.ma_eigenvalues.Reads as reads
+use Rattle.eigen.proofs.ma_eigenvalues.Lts as lts
+use Rattle.eigen.proofs.delivered.Reads as delivered-reads
+use Rattle.projection.proofs.mam.Reads as mam-reads
+
+mam-requires : tie.Need-mam-requires
+mam-requires c κs = (omega arith, sym (c .before .before .before .before .pre .3), c .before .before .before .before .pre .0, c .before .before .before .before .pre .1)
+
+enum-told : tie.Need-enum-told
+enum-told c = search needs
+
+enum-told-2 : tie.Need-enum-told-2
+enum-told-2 c = search needs
+
+array-borrow-prefix-d : tie.Need-array-borrow-prefix-d
+array-borrow-prefix-d c = search needs
+
+slice-aggregate-delivered : tie.Need-slice-aggregate-delivered
+slice-aggregate-delivered c = simp (length-take, length-replicate) (omega arith)
+
+array-borrow-prefix-e : tie.Need-array-borrow-prefix-e
+array-borrow-prefix-e c = search needs
+
+slice-aggregate-delivered-2 : tie.Need-slice-aggregate-delivered-2
+slice-aggregate-delivered-2 c = simp (length-take, length-replicate) (omega arith)
+
+delivered-requires : tie.Need-delivered-requires
+delivered-requires c κs = let f : take (c .before .before .before .before .before .before .before .before .before .before .before .before .before .args .n * c .before .before .before .before .before .before .before .before .before .before .before .before .before .args .n) (c .before .before .before .before .before .before .before .before .mam .last .0) ≡ mamOf (c .before .before .before .before .before .before .before .before .before .before .before .before .before .args .columns .now) (c .before .before .before .before .before .before .before .before .before .before .before .before .before .args .inverse) (c .before .before .before .before .before .before .before .before .before .before .before .before .before .args .n) (c .before .before .before .before .before .before .before .before .before .before .before .before .before .args .k) = ap (take (c .before .before .before .before .before .before .before .before .before .before .before .before .before .args .n * c .before .before .before .before .before .before .before .before .before .before .before .before .before .args .n)) (c .before .before .before .before .before .before .before .before .mam .ensures .1) ∙ take-at (mamOf (c .before .before .before .before .before .before .before .before .before .before .before .before .before .args .columns .now) (c .before .before .before .before .before .before .before .before .before .before .before .before .before .args .inverse) (c .before .before .before .before .before .before .before .before .before .before .before .before .before .args .n) (c .before .before .before .before .before .before .before .before .before .before .before .before .before .args .k)) _ (c .before .before .before .before .before .before .before .before .before .before .before .before .before .args .n * c .before .before .before .before .before .before .before .before .before .before .before .before .before .args .n) (length-symmetric (c .before .before .before .before .before .before .before .before .before .before .before .before .before .args .n) (product (c .before .before .before .before .before .before .before .before .before .before .before .before .before .args .columns .now) (c .before .before .before .before .before .before .before .before .before .before .before .before .before .args .inverse) (c .before .before .before .before .before .before .before .before .before .before .before .before .before .args .n) (c .before .before .before .before .before .before .before .before .before .before .before .before .before .args .k))) in (omega (arith, c .before .before .before .before .before .before .before .before .mam .kept .0, c .before .before .before .before .before .before .before .before .before .before .before .before .before .pre .4), c .before .before .before .before .before .before .before .before .before .before .before .before .before .pre .0, c .before .before .before .before .before .before .before .before .before .before .before .before .before .pre .2, subst (λ (z : List Float). Symmetric (c .before .before .before .before .before .before .before .before .before .before .before .before .before .args .n) z) (sym f) (mam-symmetric (c .before .before .before .before .before .before .before .before .before .before .before .before .before .args .columns .now) (c .before .before .before .before .before .before .before .before .before .before .before .before .before .args .inverse) (c .before .before .before .before .before .before .before .before .before .before .before .before .before .args .n) (c .before .before .before .before .before .before .before .before .before .before .before .before .before .args .k)), simp (length-take, length-replicate) (omega (arith, c .before .before .before .before .before .before .before .before .before .before .before .before .before .pre .0)), simp (length-take, length-replicate) (omega (arith, c .before .before .before .before .before .before .before .before .before .before .before .before .before .pre .0)), c .before .before .before .before .before .before .before .before .before .before .before .before .before .pre .5)
+
+same-length : tie.Need-same-length
+same-length c = search needs
+
+returns : tie.Need-returns
+returns c = let z = matrix-bad (c .before .before .before .before .before .before .before .before .before .args .columns .now) (c .before .before .before .before .before .before .before .before .before .args .inverse) (c .before .before .before .before .before .before .before .before .before .args .n) (c .before .before .before .before .before .before .before .before .before .args .k) _ (sym (c .before .before .before .before .mam .ensures .0) ∙ c .enum-told .given .1) in (sym (z .0), (rw (z .1) refl, rw (z .2) (c .before .before .before .before .mam .ensures .1)))
+
+same-length-2 : tie.Need-same-length-2
+same-length-2 c = search needs
+
+same-length-3 : tie.Need-same-length-3
+same-length-3 c = search needs
+
+returns-2 : tie.Need-returns-2
+returns-2 c = let f : take (c .before .before .before .before .before .before .before .before .before .before .before .before .before .before .before .before .before .before .before .before .args .n * c .before .before .before .before .before .before .before .before .before .before .before .before .before .before .before .before .before .before .before .before .args .n) (c .before .before .before .before .before .before .before .before .before .before .before .before .before .before .before .mam .last .0) ≡ mamOf (c .before .before .before .before .before .before .before .before .before .before .before .before .before .before .before .before .before .before .before .before .args .columns .now) (c .before .before .before .before .before .before .before .before .before .before .before .before .before .before .before .before .before .before .before .before .args .inverse) (c .before .before .before .before .before .before .before .before .before .before .before .before .before .before .before .before .before .before .before .before .args .n) (c .before .before .before .before .before .before .before .before .before .before .before .before .before .before .before .before .before .before .before .before .args .k) = ap (take (c .before .before .before .before .before .before .before .before .before .before .before .before .before .before .before .before .before .before .before .before .args .n * c .before .before .before .before .before .before .before .before .before .before .before .before .before .before .before .before .before .before .before .before .args .n)) (c .before .before .before .before .before .before .before .before .before .before .before .before .before .before .before .mam .ensures .1) ∙ take-at (mamOf (c .before .before .before .before .before .before .before .before .before .before .before .before .before .before .before .before .before .before .before .before .args .columns .now) (c .before .before .before .before .before .before .before .before .before .before .before .before .before .before .before .before .before .before .before .before .args .inverse) (c .before .before .before .before .before .before .before .before .before .before .before .before .before .before .before .before .before .before .before .before .args .n) (c .before .before .before .before .before .before .before .before .before .before .before .before .before .before .before .before .before .before .before .before .args .k)) _ (c .before .before .before .before .before .before .before .before .before .before .before .before .before .before .before .before .before .before .before .before .args .n * c .before .before .before .before .before .before .before .before .before .before .before .before .before .before .before .before .before .before .before .before .args .n) (length-symmetric (c .before .before .before .before .before .before .before .before .before .before .before .before .before .before .before .before .before .before .before .before .args .n) (product (c .before .before .before .before .before .before .before .before .before .before .before .before .before .before .before .before .before .before .before .before .args .columns .now) (c .before .before .before .before .before .before .before .before .before .before .before .before .before .before .before .before .before .before .before .before .args .inverse) (c .before .before .before .before .before .before .before .before .before .before .before .before .before .before .before .before .before .before .before .before .args .n) (c .before .before .before .before .before .before .before .before .before .before .before .before .before .before .before .before .before .before .before .before .args .k))) in let g = ap (drop (c .before .before .before .before .before .before .before .before .before .before .before .before .before .before .before .before .before .before .before .before .args .n * c .before .before .before .before .before .before .before .before .before .before .before .before .before .before .before .before .before .before .before .before .args .n)) (c .before .before .before .before .before .before .before .before .before .before .before .before .before .before .before .mam .ensures .1) ∙ drop-at (mamOf (c .before .before .before .before .before .before .before .before .before .before .before .before .before .before .before .before .before .before .before .before .args .columns .now) (c .before .before .before .before .before .before .before .before .before .before .before .before .before .before .before .before .before .before .before .before .args .inverse) (c .before .before .before .before .before .before .before .before .before .before .before .before .before .before .before .before .before .before .before .before .args .n) (c .before .before .before .before .before .before .before .before .before .before .before .before .before .before .before .before .before .before .before .before .args .k)) _ (c .before .before .before .before .before .before .before .before .before .before .before .before .before .before .before .before .before .before .before .before .args .n * c .before .before .before .before .before .before .before .before .before .before .before .before .before .before .before .before .before .before .before .before .args .n) (length-symmetric (c .before .before .before .before .before .before .before .before .before .before .before .before .before .before .before .before .before .before .before .before .args .n) (product (c .before .before .before .before .before .before .before .before .before .before .before .before .before .before .before .before .before .before .before .before .args .columns .now) (c .before .before .before .before .before .before .before .before .before .before .before .before .before .before .before .before .before .before .before .before .args .inverse) (c .before .before .before .before .before .before .before .before .before .before .before .before .before .before .before .before .before .before .before .before .args .n) (c .before .before .before .before .before .before .before .before .before .before .before .before .before .before .before .before .before .before .before .before .args .k))) in let z = matrix-good (c .before .before .before .before .before .before .before .before .before .before .before .before .before .before .before .before .before .before .before .before .args .columns .now) (c .before .before .before .before .before .before .before .before .before .before .before .before .before .before .before .before .before .before .before .before .args .inverse) (c .before .before .before .before .before .before .before .before .before .before .before .before .before .before .before .before .before .before .before .before .args .n) (c .before .before .before .before .before .before .before .before .before .before .before .before .before .before .before .before .before .before .before .before .args .k) (sym (c .before .before .before .before .before .before .before .before .before .before .before .before .before .before .before .mam .ensures .0) ∙ c .before .before .before .before .before .before .before .before .before .before .before .enum-told2 .given .1) in (c .before .before .before .before .before .before .delivered .ensures .0 ∙ rw f (sym (z .0)), (rw (z .1) (rw f at (c .before .before .before .before .before .before .delivered .ensures .1 .1)), rw (z .2) (rw (f, g) at (c .before .before .before .before .before .before .delivered .ensures .1 .0))))
+
+pub ma-eigenvalues-spec : {M : Type 1} → statement M
+ma-eigenvalues-spec =
+    tie.close
+    (tie.spec
+    mam-requires
+    enum-told
+    enum-told-2
+    array-borrow-prefix-d
+    slice-aggregate-delivered
+    array-borrow-prefix-e
+    slice-aggregate-delivered-2
+    delivered-requires
+    same-length
+    returns
+    same-length-2
+    same-length-3
+    returns-2)

@@ -1,0 +1,11 @@
+pub mod WeightLaws
+pub mod RoomLaws
+pub mod StageLaws
+pub mod HeldLaws
+pub mod Reorder
+pub mod EveryStage
+pub mod Tiling
+pub mod NoNan
+pub mod Probability
+pub mod Midpoint
+pub mod Ordered

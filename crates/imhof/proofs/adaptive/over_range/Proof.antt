@@ -1,0 +1,63 @@
+use Rattle.imhof.proofs.HeldLaws.{laid-none}
+use Rattle.imhof.specs.Imhof.{quadratureOf, lastStage, lastStageBy}
+use Rattle.imhof.specs.Room.{laidOut}
+use Rattle.imhof.specs.Parts.{stageAfter}
+use Rattle.imhof.specs.Integrand.{integrandOf}
+use Rattle.imhof.specs.Range.{lowEnd, highEnd}
+use lib.Ieee.Scale.{finite}
+use mathlib.Core.Logic.{⊎-elim}
+use mathlib.Core.Bool.{true, false, _&&_}
+use mathlib.Core.Path.{_≡_, refl, sym, ap, ap₂, _∙_}
+use borrow.Author.Needs.{needs}
+use Rattle.imhof.proofs.adaptive.over_range.Statement.{statement}
+use Rattle.imhof.proofs.adaptive.over_range.Tie as tie
+use Rattle.imhof.proofs.adaptive.over_range.Reads as reads
+use Rattle.imhof.proofs.adaptive.over_range.Lts as lts
+use Rattle.floats.proofs.signs.is_finite.Reads as is-finite-reads
+use Rattle.imhof.proofs.adaptive.integrate.Reads as integrate-reads
+use Rattle.imhof.proofs.range.high_end.Reads as high-end-reads
+use Rattle.imhof.proofs.range.low_end.Reads as low-end-reads
+
+low-end-requires : tie.Need-low-end-requires
+low-end-requires c κs = search needs
+
+high-end-requires : tie.Need-high-end-requires
+high-end-requires c κs = search needs
+
+is-finite-requires : tie.Need-is-finite-requires
+is-finite-requires c κs = search needs
+
+is-finite-requires-2 : tie.Need-is-finite-requires-2
+is-finite-requires-2 c κs = search needs
+
+integrate-requires : tie.Need-integrate-requires
+integrate-requires c κs = search needs
+
+same-length : tie.Need-same-length
+same-length c = search needs
+
+returns : tie.Need-returns
+returns c =     let ws = c .before .before .before .before .before .before .before .before .before .before .before .before .args .weights .now in
+    let fine : finite (lowEnd ws) && finite (highEnd ws) ≡ true = rw (← c .before .before .before .before .before .before .before .before .before .low-end .ensures, ← c .before .before .before .before .before .before .before .before .high-end .ensures, ← c .before .before .before .before .before .before .before .is-finite .ensures, c .before .before .before .before .before .before .if1 .taken, ← c .before .before .before .before .before .is-finite2 .ensures, c .before .before .before .before .if2 .taken) in
+    let e : stageAfter 2000 (integrandOf ws) (c .before .before .before .before .before .before .before .before .before .low-end .result) (c .before .before .before .before .before .before .before .before .high-end .result) ≡ lastStage ws =
+    ap₂ (stageAfter 2000 (integrandOf ws)) (c .before .before .before .before .before .before .before .before .before .low-end .ensures) (c .before .before .before .before .before .before .before .before .high-end .ensures) ∙ ap (λ b. lastStageBy b ws) (sym fine) in
+    (c .before .before .integrate .ensures .0 ∙ ap quadratureOf e, c .before .before .integrate .ensures .1 ∙ ap (λ s. laidOut (s .parts) (c .before .before .before .before .before .before .before .before .before .before .before .before .args .parts .now)) e)
+
+returns-2 : tie.Need-returns-2
+returns-2 c =     let ws = c .before .before .before .before .before .before .args .weights .now in
+    let broken : finite (lowEnd ws) && finite (highEnd ws) ≡ false =
+    rw (← c .before .before .before .low-end .ensures, ← c .before .before .high-end .ensures, ← c .before .is-finite .ensures) (⊎-elim (λ w. rw (w .0 .taken, ← w .1 .ensures, w .2 .left)) (λ w. rw (w .left)) (c .if1 .came)) in
+    rw broken (refl, sym (laid-none (c .before .before .before .before .before .before .args .parts .now)))
+
+pub over-range-spec : {M : Type 1} → statement M
+over-range-spec =
+    tie.close
+    (tie.spec
+    low-end-requires
+    high-end-requires
+    is-finite-requires
+    is-finite-requires-2
+    integrate-requires
+    same-length
+    returns
+    returns-2)

@@ -1,0 +1,124 @@
+// Adaptive quadrature over the part room: the part of greatest error is bisected until the summed error is small enough.
+ghost use mathlib.Core.Path.{_≡_};
+ghost use mathlib.Core.Bool.{_&&_};
+ghost use Prim.Native.Nat.{_<_, _≤_, _+_, _*_};
+ghost use lib.ListN.{length};
+ghost use lib.Ieee.Scale.{finite};
+ghost use Rattle.imhof.specs.Imhof.{integralOf, quadratureOf, lastStage};
+ghost use Rattle.imhof.specs.Integrand.{integrandOf};
+ghost use Rattle.imhof.specs.Parts.{finitePart, stage, nextStage, stageAfter};
+ghost use Rattle.imhof.specs.Room.{partsIn, laidOut};
+ghost use Rattle.imhof.specs.declared.Standing.the-variants.{Open};
+
+use super::{Integral, Part, Quadrature, Standing};
+use super::room;
+use super::rule::{Halves, bisect, gk15};
+use floats::tally::Tally;
+
+// Half of 1e-11: the cuts of the range and the quadrature share it.
+const TOLERANCE: f64 = 5e-12;
+
+// Where a turn left things: how the parts stand, and the work tally.
+pub struct Turn {
+    pub standing: Standing,
+    pub tally: Tally,
+}
+
+fn is_finite_part(p: Part) -> bool
+    ensures { λ r. ⌜ r ≡ finitePart p ⌝ }
+{
+    if floats::signs::is_finite(p.value) {
+        return floats::signs::is_finite(p.error);
+    }
+    false
+}
+
+fn are_finite(h: Halves) -> bool
+    ensures { λ r. ⌜ r ≡ finitePart (h .left) && finitePart (h .right) ⌝ }
+{
+    if is_finite_part(h.left) {
+        return is_finite_part(h.right);
+    }
+    false
+}
+
+// One turn over n parts: if their summed error is at most 5e-12 they are settled, else the one of greatest error is bisected.
+// Where a half's value or error is not finite the parts stay as they were.
+pub fn advance(weights: &[f64], parts: &mut [f64], n: usize, tally: Tally) -> Turn
+    requires { ⌜ (0 < n) × (n < 2001) × (8004 ≤ length (now parts)) ⌝ }
+    requires { ⌜ (tally .bisections ≤ 2000) × (tally .evaluations ≤ 60015) ⌝ }
+    ensures { λ r. ⌜ r .standing ≡ nextStage (integrandOf (now (weights .entry))) (stage (partsIn n (now (parts .entry))) tally Open) .standing ⌝ }
+    ensures { λ r. ⌜ r .tally ≡ nextStage (integrandOf (now (weights .entry))) (stage (partsIn n (now (parts .entry))) tally Open) .tally ⌝ }
+    ensures { λ _. ⌜ now (parts .exit) ≡ laidOut (nextStage (integrandOf (now (weights .entry))) (stage (partsIn n (now (parts .entry))) tally Open) .parts) (now (parts .entry)) ⌝ }
+{
+    if room::error_sum(parts, n) <= TOLERANCE {
+        return Turn {
+            standing: Standing::Settled,
+            tally,
+        };
+    }
+    let w = room::worst(parts, n);
+    let h = bisect(weights, room::part_at(parts, w));
+    if !are_finite(h) {
+        return Turn {
+            standing: Standing::Refused,
+            tally,
+        };
+    }
+    room::replace(parts, n, w, h.left, h.right);
+    Turn {
+        standing: Standing::Open,
+        tally: tally.bisected().evaluated(15).evaluated(15),
+    }
+}
+
+// What n parts add up to.
+fn total(parts: &[f64], n: usize, tally: Tally) -> Integral
+    requires { ⌜ (n ≤ 2001) × (8004 ≤ length (now parts)) ⌝ }
+    ensures { λ r. ⌜ r ≡ integralOf (stage (partsIn n (now (parts .entry))) tally Open) ⌝ }
+{
+    Integral {
+        value: room::value_sum(parts, n),
+        error: room::error_sum(parts, n),
+        tally,
+    }
+}
+
+// The integral from lo to hi: one part, then at most 2,000 turns.
+pub fn integrate(weights: &[f64], lo: f64, hi: f64, parts: &mut [f64]) -> Quadrature
+    requires { ⌜ 8004 ≤ length (now parts) ⌝ }
+    ensures { λ r. ⌜ r ≡ quadratureOf (stageAfter 2000 (integrandOf (now (weights .entry))) lo hi) ⌝ }
+    ensures { λ _. ⌜ now (parts .exit) ≡ laidOut (stageAfter 2000 (integrandOf (now (weights .entry))) lo hi .parts) (now (parts .entry)) ⌝ }
+{
+    let whole = gk15(weights, lo, hi);
+    if !is_finite_part(whole) {
+        return Quadrature::Broken;
+    }
+    room::put(parts, 0, whole);
+    let mut tally = Tally::new().evaluated(15);
+    for k in 0..2000usize {
+        let after = advance(weights, parts, k + 1, tally);
+        tally = after.tally;
+        let standing = after.standing;
+        match standing {
+            Standing::Open => {}
+            Standing::Settled => return Quadrature::Sum(total(parts, k + 1, tally)),
+            Standing::Refused => return Quadrature::Broken,
+        }
+    }
+    Quadrature::Sum(total(parts, 2001, tally))
+}
+
+// The integral over the weights' own range.
+pub fn over_range(weights: &[f64], parts: &mut [f64]) -> Quadrature
+    requires { ⌜ (length (now weights) ≤ 256) × (8004 ≤ length (now parts)) ⌝ }
+    ensures { λ r. ⌜ r ≡ quadratureOf (lastStage (now (weights .entry))) ⌝ }
+    ensures { λ _. ⌜ now (parts .exit) ≡ laidOut (lastStage (now (weights .entry)) .parts) (now (parts .entry)) ⌝ }
+{
+    let lo = super::range::low_end(weights);
+    let hi = super::range::high_end(weights);
+    if floats::signs::is_finite(lo) && floats::signs::is_finite(hi) {
+        return integrate(weights, lo, hi, parts);
+    }
+    Quadrature::Broken
+}

@@ -1,0 +1,117 @@
+// Imhof's (1961) probability that a quadratic form in normal variables is below zero, by adaptive
+// Gauss-Kronrod quadrature: from the eigenvalues and the statistic to the exact lower tail.
+ghost use mathlib.Core.Path.{_≡_};
+ghost use Prim.Native.Nat.{_≤_};
+ghost use lib.ListN.{length};
+ghost use Rattle.imhof.specs.Imhof.{imhofOf, outcomeBy, clampOf, estimateOf};
+ghost use Rattle.imhof.specs.Weights.{signsOf};
+ghost use Rattle.imhof.specs.Room.{laidOut};
+
+use floats::tally::Tally;
+
+mod integrand;
+pub mod adaptive;
+mod range;
+mod room;
+mod rule;
+mod weights;
+
+// A part of the range: its ends, its integral by Kronrod's rule, and the distance from Gauss's.
+pub struct Part {
+    pub lo: f64,
+    pub hi: f64,
+    pub value: f64,
+    pub error: f64,
+}
+
+// Whether another bisection may follow, the errors are small enough, or a number was not finite.
+pub enum Standing {
+    Open,
+    Settled,
+    Refused,
+}
+
+// The sums of the parts' values and of their errors, first to last, and the work.
+pub struct Integral {
+    pub value: f64,
+    pub error: f64,
+    pub tally: Tally,
+}
+
+// An integral, or that a number was not finite on the way.
+pub enum Quadrature {
+    Sum(Integral),
+    Broken,
+}
+
+// A probability as it came out, the same clamped to [0, 1], and the work it took.
+pub struct Estimate {
+    pub raw: f64,
+    pub probability: f64,
+    pub tally: Tally,
+}
+
+pub enum Exact {
+    // Each eigenvalue equals the statistic: there is no exact value.
+    NoWeight,
+    // Refusal 13, stage 4.
+    NotFinite,
+    Value(Estimate),
+}
+
+// Rust's clamp to [0, 1].
+fn clamp(x: f64) -> f64
+    ensures { λ r. ⌜ r ≡ clampOf x ⌝ }
+{
+    if x < 0.0 {
+        return 0.0;
+    }
+    if x > 1.0 {
+        return 1.0;
+    }
+    x
+}
+
+fn clamped(raw: f64, tally: Tally) -> Estimate
+    ensures { λ r. ⌜ r ≡ estimateOf raw tally ⌝ }
+{
+    Estimate {
+        raw,
+        probability: clamp(raw),
+        tally,
+    }
+}
+
+// The probability for given weights, none of them 0.
+fn below_zero(weights: &[f64], parts: &mut [f64]) -> Exact
+    requires { ⌜ (length (now weights) ≤ 256) × (8004 ≤ length (now parts)) ⌝ }
+    ensures { λ r. ⌜ r ≡ outcomeBy (signsOf (now (weights .entry))) (now (weights .entry)) .answer ⌝ }
+    ensures { λ _. ⌜ now (parts .exit) ≡ laidOut (outcomeBy (signsOf (now (weights .entry))) (now (weights .entry)) .parts) (now (parts .entry)) ⌝ }
+{
+    if weights.len() == 0 {
+        return Exact::NoWeight;
+    }
+    if weights::all_above(weights) {
+        return Exact::Value(clamped(0.0, Tally::new()));
+    }
+    if weights::all_below(weights) {
+        return Exact::Value(clamped(1.0, Tally::new()));
+    }
+    let found = adaptive::over_range(weights, parts);
+    match found {
+        Quadrature::Sum(i) => Exact::Value(clamped(0.5 - i.value / 3.141592653589793, i.tally)),
+        Quadrature::Broken => Exact::NotFinite,
+    }
+}
+
+// P(sum of (eigenvalue - d) z² < 0) for independent standard normal z: the lower tail of the statistic at d.
+// `parts` is the part room, at least 8,004 numbers; it keeps the parts of the last stage.
+pub fn prob_below_zero(eigenvalues: &[f64], d: f64, parts: &mut [f64]) -> Exact
+    requires { ⌜ (length (now eigenvalues) ≤ 256) × (8004 ≤ length (now parts)) ⌝ }
+    ensures { λ r. ⌜ r ≡ imhofOf (now (eigenvalues .entry)) d .answer ⌝ }
+    ensures { λ _. ⌜ now (parts .exit) ≡ laidOut (imhofOf (now (eigenvalues .entry)) d .parts) (now (parts .entry)) ⌝ }
+{
+    let mut weights = [0.0f64; 256];
+    let m = weights::shift(eigenvalues, d, &mut weights);
+    below_zero(&weights[..m], parts)
+}

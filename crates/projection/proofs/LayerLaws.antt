@@ -1,0 +1,56 @@
+-- A matrix as a sum of layers: layer t adds u t i times w t j to entry (i, j), for j up to i, so after t layers each entry is the sum of its first t terms.
+-- Both X (X'X)^-1 X' and M A M are made so. Assumes nothing.
+use Prim.Native.Nat.{ℕ, zero, suc, _+_, _*_, _-_, _≤_, _<_}
+use native.Mathlib.Nat.{not-suc-le-zero}
+use native.Mathlib.Numerals.{add-one}
+use native.Mathlib.Omega.{arith}
+use mathlib.Core.Path.{_≡_, refl, ap, sym, _∙_}
+use mathlib.Core.Logic.{_⊎_, ⊎-elim}
+use mathlib.Core.Bool.{Bool, true, false, cond}
+use mathlib.Core.List.{List}
+use lib.Dec.{leb}
+use lib.ListN.{length}
+use lib.Ieee.{Float}
+use borrow.Author.Tests.{le-leb, lt-leb}
+use Rattle.floats.specs.Words.{_⊕_, _⊗_, _‼_, minusZero}
+use Rattle.floats.specs.Sums.{sumOf}
+use Rattle.floats.specs.Tables.{table, square, part, withPart}
+use Rattle.projection.specs.Matrix.{entry, layered}
+use Rattle.projection.proofs.MatrixLaws.{rowsTo, rows-kernel, square-same, entry-square, length-square}
+
+-- the turn of row i
+pub layer-row : (n i start end : ℕ) (a u w : List Float) → i < n → start ≡ i * n + 0 → end ≡ start + (i + 1)
+    → withPart start end (rowsTo n (layered n a u w) (entry n a) i) (table (λ j. part start end (rowsTo n (layered n a u w) (entry n a) i) ‼ j ⊕ u ‼ i ⊗ w ‼ j) (length (part start end (rowsTo n (layered n a u w) (entry n a) i))))
+    ≡ rowsTo n (layered n a u w) (entry n a) (i + 1)
+unfolding layered
+layer-row n i start end a u w h s e =
+    rows-kernel n (layered n a u w) (entry n a) i start end 0 (i + 1) (λ j y. y ⊕ u ‼ i ⊗ w ‼ j) h s (omega arith) (omega arith) (omega arith)
+    (λ c b d. let z : c - 0 ≡ c = omega arith in rw (z, le-leb c i (omega arith)))
+    (λ c q o. ⊎-elim (λ b. absurd (not-suc-le-zero b)) (λ (b : i + 1 ≤ c). rw (lt-leb c i (omega arith))) o)
+
+-- the matrix of sums, -0 where j exceeds i
+unfoldable pub sums : ℕ → (ℕ → ℕ → Float) → (ℕ → ℕ → Float) → ℕ → List Float
+sums n u w t = square (λ i j. cond (leb j i) (sumOf t (λ t. u t i ⊗ w t j)) minusZero) n
+
+pub length-sums : (n : ℕ) (u w : ℕ → ℕ → Float) (t : ℕ) → length (sums n u w t) ≡ n * n
+unfolding sums
+length-sums n u w t = length-square n (λ i j. cond (leb j i) (sumOf t (λ t. u t i ⊗ w t j)) minusZero)
+
+pub sums-none : (n : ℕ) (u w : ℕ → ℕ → Float) → square (λ i j. minusZero) n ≡ sums n u w 0
+unfolding sums sumOf
+sums-none n u w = square-same n (λ i j. minusZero) (λ i j. cond (leb j i) (sumOf 0 (λ t. u t i ⊗ w t j)) minusZero) (λ i j h k. go (leb j i))
+  where
+    go : (b : Bool) → minusZero ≡ cond b minusZero minusZero
+    go true = refl
+    go false = refl
+
+pub sums-more : (n t : ℕ) (u w : ℕ → ℕ → Float) (us ws : List Float) → ((i : ℕ) → i < n → us ‼ i ≡ u t i) → ((j : ℕ) → j < n → ws ‼ j ≡ w t j)
+    → square (layered n (sums n u w t) us ws) n ≡ sums n u w (t + 1)
+unfolding sums sumOf layered
+sums-more n t u w us ws p q =
+    square-same n (layered n (sums n u w t) us ws) (λ i j. cond (leb j i) (sumOf (t + 1) (λ t. u t i ⊗ w t j)) minusZero)
+    (λ i j h k. rw (entry-square n (λ i j. cond (leb j i) (sumOf t (λ t. u t i ⊗ w t j)) minusZero) i j h k, p i h, q j k, add-one t) (go (leb j i) (sumOf t (λ t. u t i ⊗ w t j)) (u t i ⊗ w t j)))
+  where
+    go : (b : Bool) (x y : Float) → cond b (cond b x minusZero ⊕ y) (cond b x minusZero) ≡ cond b (x ⊕ y) minusZero
+    go true x y = refl
+    go false x y = refl

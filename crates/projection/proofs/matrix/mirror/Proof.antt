@@ -1,0 +1,58 @@
+use Rattle.projection.proofs.MirrorLaws.{copied, mirrored, mirrored-none, mirrored-more, mirrored-all}
+use Rattle.floats.specs.Tables.{square}
+use Rattle.projection.specs.Matrix.{entry}
+use Rattle.projection.proofs.MatrixLaws.{square-of}
+use Prim.Native.Nat.{ℕ, zero, suc, _≤_, _<_, _-_, _*_, _+_}
+use native.Mathlib.Omega.{arith}
+use native.Mathlib.Numerals.{add-one}
+use native.Mathlib.Nat.{le-antisymm}
+use mathlib.Core.Path.{_≡_, refl, ap, sym, _∙_}
+use lib.ListN.{length, getD, set, length-set}
+use borrow.Author.Needs.{needs}
+use Rattle.projection.proofs.matrix.mirror.Statement.{statement}
+use Rattle.projection.proofs.matrix.mirror.Tie as tie
+use Rattle.projection.proofs.matrix.mirror.Reads as reads
+use Rattle.projection.proofs.matrix.mirror.Lts as lts
+use Rattle.projection.proofs.matrix.mirror_row.Reads as mirror-row-reads
+
+abbrev Inv-loop : tie.InvT-loop
+Inv-loop a₀ n i₀ a i = (i ≤ n) × (length a ≡ length a₀) × (a ≡ square (mirrored n (entry n a₀) i) n)
+
+abbrev μ-loop : tie.MeasureT-loop
+μ-loop a₀ n i₀ a i = n - i
+
+loop-holds : tie.Need-loop-holds Inv-loop μ-loop
+loop-holds c = (omega arith, refl, square-of _ _ _ (c .before .pre) (λ i j h k. refl) ∙ mirrored-none _ _)
+
+mirror-row-requires : tie.Need-mirror-row-requires Inv-loop μ-loop
+mirror-row-requires c κs = search needs
+
+add-i : tie.Need-add-i Inv-loop μ-loop
+add-i c = search needs
+
+loop-less : tie.Need-loop-less Inv-loop μ-loop
+loop-less c = search needs
+
+loop-again : tie.Need-loop-again Inv-loop μ-loop
+unfolding copied
+loop-again c = (omega arith, search needs, c .before .before .mirror-row .ensures ∙ rw (c .before .before .before .before .before .loop .inv .2) (mirrored-more _ _ _ (c .before .before .before .before .loop-test .taken)))
+
+same-length : tie.Need-same-length Inv-loop μ-loop
+same-length c = search needs
+
+returns : tie.Need-returns Inv-loop μ-loop
+returns c = c .before .loop .inv .2 ∙ rw (le-antisymm (c .before .loop .inv .0) (c .loop-test .left)) (mirrored-all _ _)
+
+pub mirror-spec : {M : Type 1} → statement M
+mirror-spec =
+    tie.close
+    (tie.spec
+    Inv-loop
+    μ-loop
+    loop-holds
+    mirror-row-requires
+    add-i
+    loop-less
+    loop-again
+    same-length
+    returns)

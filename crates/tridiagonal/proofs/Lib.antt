@@ -1,0 +1,5 @@
+pub mod RowLaws
+pub mod MatrixLaws
+pub mod Commutes
+pub mod ReflectionLaws
+pub mod Examples

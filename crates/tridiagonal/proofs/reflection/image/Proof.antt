@@ -1,0 +1,105 @@
+use Rattle.tridiagonal.proofs.ReflectionLaws.{imageTo, image-none, image-more, image-all}
+use Rattle.tridiagonal.specs.Reflection.{below}
+use Prim.Native.Nat.{ℕ, zero, suc, _≤_, _<_, _-_, _*_, _+_}
+use native.Mathlib.Omega.{arith}
+use native.Mathlib.Numerals.{add-one}
+use native.Mathlib.Nat.{le-antisymm}
+use mathlib.Core.Path.{_≡_, refl, ap, sym, _∙_}
+use lib.ListN.{length, getD, set, length-set}
+use borrow.Author.Needs.{needs}
+use Rattle.tridiagonal.proofs.reflection.image.Statement.{statement}
+use Rattle.tridiagonal.proofs.reflection.image.Tie as tie
+use Rattle.tridiagonal.proofs.reflection.image.Reads as reads
+use Rattle.tridiagonal.proofs.reflection.image.Lts as lts
+use Rattle.tridiagonal.proofs.reflection.place.Reads as place-reads
+use Rattle.tridiagonal.proofs.rows.add_multiple.Reads as add-multiple-reads
+use Rattle.tridiagonal.proofs.rows.fill.Reads as fill-reads
+
+abbrev Inv-loop : tie.InvT-loop
+Inv-loop p₀ a n c v t₀ t-end p t = (t ≤ below n c) × (t-end ≡ below n c) × (length p ≡ below n c) × (p ≡ imageTo n c a v t)
+
+abbrev μ-loop : tie.MeasureT-loop
+μ-loop p₀ a n c v t₀ t-end p t = below n c - t
+
+fill-requires : tie.Need-fill-requires Inv-loop μ-loop
+fill-requires c κs = search needs
+
+loop-holds : tie.Need-loop-holds Inv-loop μ-loop
+loop-holds c = (omega arith, search needs, search needs, c .before .before .fill .ensures ∙ rw (c .before .before .before .before .before .before .before .pre .0) (image-none _ _ _ _))
+
+add-place : tie.Need-add-place Inv-loop μ-loop
+add-place c = search needs
+
+add-place-2 : tie.Need-add-place-2 Inv-loop μ-loop
+add-place-2 c = search needs
+
+add-place-3 : tie.Need-add-place-3 Inv-loop μ-loop
+add-place-3 c = search needs
+
+place-requires : tie.Need-place-requires Inv-loop μ-loop
+place-requires c κs = search needs
+
+add-end : tie.Need-add-end Inv-loop μ-loop
+add-end c = search needs
+
+mul-add-multiple : tie.Need-mul-add-multiple Inv-loop μ-loop
+mul-add-multiple c = search needs
+
+sub-add-multiple : tie.Need-sub-add-multiple Inv-loop μ-loop
+sub-add-multiple c = search needs
+
+part-add-multiple-start : tie.Need-part-add-multiple-start Inv-loop μ-loop
+part-add-multiple-start c = search needs
+
+part-add-multiple-end : tie.Need-part-add-multiple-end Inv-loop μ-loop
+part-add-multiple-end c = search needs
+
+mul-add-multiple-2 : tie.Need-mul-add-multiple-2 Inv-loop μ-loop
+mul-add-multiple-2 c = search needs
+
+shared-slice-read-add-multiple : tie.Need-shared-slice-read-add-multiple Inv-loop μ-loop
+shared-slice-read-add-multiple c = search needs
+
+add-multiple-requires : tie.Need-add-multiple-requires Inv-loop μ-loop
+add-multiple-requires c κs = search needs
+
+add-t : tie.Need-add-t Inv-loop μ-loop
+add-t c = search needs
+
+loop-less : tie.Need-loop-less Inv-loop μ-loop
+loop-less c = search needs
+
+loop-again : tie.Need-loop-again Inv-loop μ-loop
+loop-again c = (omega arith, search needs, search needs, c .before .before .add-multiple .ensures ∙ rw (c .before .before .before .before .before .before .before .before .loop .inv .3) (image-more _ _ _ _ _ _ _ (c .before .before .before .before .before .before .before .before .before .before .before .before .before .before .before .before .pre .2) (c .before .before .before .before .before .before .before .before .before .before .before .before .before .before .before .before .pre .3) (search needs) (c .before .before .before .before .before .before .before .before .before .before .before .before .before .before .before .before .pre .1) (c .before .before .before .before .before .before .place .ensures .0)))
+
+same-length : tie.Need-same-length Inv-loop μ-loop
+same-length c = search needs
+
+returns : tie.Need-returns Inv-loop μ-loop
+returns c = c .before .loop .inv .3 ∙ rw (le-antisymm (c .before .loop .inv .0) (search needs)) (image-all _ _ _ _ (c .before .before .before .before .before .before .before .before .before .pre .3) (c .before .before .before .before .before .before .before .before .before .pre .4))
+
+pub image-spec : {M : Type 1} → statement M
+image-spec =
+    tie.close
+    (tie.spec
+    Inv-loop
+    μ-loop
+    fill-requires
+    loop-holds
+    add-place
+    add-place-2
+    add-place-3
+    place-requires
+    add-end
+    mul-add-multiple
+    sub-add-multiple
+    part-add-multiple-start
+    part-add-multiple-end
+    mul-add-multiple-2
+    shared-slice-read-add-multiple
+    add-multiple-requires
+    add-t
+    loop-less
+    loop-again
+    same-length
+    returns)

@@ -1,0 +1,3 @@
+pub mod Matrix
+pub mod Reflection
+pub mod Bands

@@ -1,0 +1,50 @@
+// A symmetric matrix made tridiagonal in place, by Householder's reflections, and its two bands.
+ghost use mathlib.Core.Path.{_≡_};
+ghost use mathlib.Core.List.{_++_};
+ghost use Prim.Native.Nat.{_*_, _≤_, _<_};
+ghost use lib.ListN.{length, drop};
+ghost use Rattle.tridiagonal.specs.Matrix.{Symmetric};
+ghost use Rattle.tridiagonal.specs.Reflection.{tridiagonalOf};
+ghost use Rattle.tridiagonal.specs.Bands.{diagonalOf, coupling, couplingsOf};
+mod reflection;
+mod rows;
+
+// The matrix of n rows and n columns in `a`, row after row, made tridiagonal.
+pub fn tridiagonalize(a: &mut [f64], n: usize)
+    requires { ⌜ (length (now a) ≡ n * n) × (n ≤ 256) × (Symmetric n (now a)) ⌝ }
+    ensures { λ _. ⌜ now (a .exit) ≡ tridiagonalOf n (now (a .entry)) ⌝ }
+{
+    if n < 2 {
+        return;
+    }
+    let mut v = [0.0f64; 256];
+    let mut p = [0.0f64; 256];
+    for c in 0..n - 2 {
+        let below = n - (c + 1);
+        reflection::reflect(a, n, c, &mut v[..below], &mut p[..below]);
+    }
+}
+
+// What couples row i and the next.
+fn coupling(a: &[f64], n: usize, i: usize) -> f64
+    requires { ⌜ (length (now a) ≡ n * n) × (i < n) ⌝ }
+    ensures { λ r. ⌜ r ≡ coupling n (now (a .entry)) i ⌝ }
+{
+    if i + 1 < n {
+        a[reflection::place(n, i + 1, i)]
+    } else {
+        0.0
+    }
+}
+
+// The diagonal into the first n numbers of `d` and the couplings into those of `e`; the rest of both stays.
+pub fn bands(a: &[f64], n: usize, d: &mut [f64], e: &mut [f64])
+    requires { ⌜ (length (now a) ≡ n * n) × (n ≤ length (now d)) × (n ≤ length (now e)) ⌝ }
+    ensures { λ _. ⌜ now (d .exit) ≡ diagonalOf n (now (a .entry)) ++ drop n (now (d .entry)) ⌝ }
+    ensures { λ _. ⌜ now (e .exit) ≡ couplingsOf n (now (a .entry)) ++ drop n (now (e .entry)) ⌝ }
+{
+    for i in 0..n {
+        d[i] = a[reflection::place(n, i, i)];
+        e[i] = coupling(a, n, i);
+    }
+}
