@@ -3,24 +3,40 @@ ghost use mathlib.Core.Path.{_≡_};
 ghost use Prim.Native.Nat.{_≤_};
 ghost use Rattle.autocorrelation.specs.Statistic.{value};
 ghost use Rattle.dwtest.specs.Refusals.{columnsRefusal, statisticRefusal, rowsRefusal, pivotsRefusal, inverseRefusal, roomRefusal};
-
 use super::Refusal;
 use autocorrelation::Statistic;
 use design::Columns;
 use design::Pivots;
-
 
 // Refusals 1 to 4.
 pub fn of_columns(found: Columns) -> Refusal
     ensures { λ r. ⌜ r ≡ columnsRefusal found ⌝ }
 {
     match found {
-        Columns::NoColumn => Refusal { number: 1, place: 0 },
-        Columns::RowsOver => Refusal { number: 2, place: 0 },
-        Columns::ColumnsOver => Refusal { number: 2, place: 1 },
-        Columns::WrongLength => Refusal { number: 3, place: 0 },
-        Columns::NotFinite(t) => Refusal { number: 4, place: t },
-        Columns::Sound => Refusal { number: 0, place: 0 },
+        Columns::NoColumn => Refusal {
+            number: 1,
+            place: 0,
+        },
+        Columns::RowsOver => Refusal {
+            number: 2,
+            place: 0,
+        },
+        Columns::ColumnsOver => Refusal {
+            number: 2,
+            place: 1,
+        },
+        Columns::WrongLength => Refusal {
+            number: 3,
+            place: 0,
+        },
+        Columns::NotFinite(t) => Refusal {
+            number: 4,
+            place: t,
+        },
+        Columns::Sound => Refusal {
+            number: 0,
+            place: 0,
+        },
     }
 }
 
@@ -29,12 +45,30 @@ pub fn of_statistic(found: Statistic) -> Refusal
     ensures { λ r. ⌜ r ≡ statisticRefusal found ⌝ }
 {
     match found {
-        Statistic::Value(_) => Refusal { number: 0, place: 0 },
-        Statistic::Empty => Refusal { number: 5, place: 0 },
-        Statistic::Single => Refusal { number: 6, place: 0 },
-        Statistic::NotFinite(t) => Refusal { number: 7, place: t },
-        Statistic::ZeroSum => Refusal { number: 8, place: 0 },
-        Statistic::Overflow => Refusal { number: 9, place: 0 },
+        Statistic::Value(_) => Refusal {
+            number: 0,
+            place: 0,
+        },
+        Statistic::Empty => Refusal {
+            number: 5,
+            place: 0,
+        },
+        Statistic::Single => Refusal {
+            number: 6,
+            place: 0,
+        },
+        Statistic::NotFinite(t) => Refusal {
+            number: 7,
+            place: t,
+        },
+        Statistic::ZeroSum => Refusal {
+            number: 8,
+            place: 0,
+        },
+        Statistic::Overflow => Refusal {
+            number: 9,
+            place: 0,
+        },
     }
 }
 
@@ -62,7 +96,10 @@ pub fn of_rows(n: usize, k: usize) -> Refusal
             place: 0,
         };
     }
-    Refusal { number: 0, place: 0 }
+    Refusal {
+        number: 0,
+        place: 0,
+    }
 }
 
 // Refusal 11.
@@ -70,7 +107,10 @@ pub fn of_pivots(found: Pivots) -> Refusal
     ensures { λ r. ⌜ r ≡ pivotsRefusal found ⌝ }
 {
     match found {
-        Pivots::Hold => Refusal { number: 0, place: 0 },
+        Pivots::Hold => Refusal {
+            number: 0,
+            place: 0,
+        },
         Pivots::Fails(i) => Refusal {
             number: 11,
             place: i,
@@ -96,7 +136,10 @@ pub fn of_rooms(n: usize, matrix: usize, parts: usize) -> Refusal
             place: 2,
         };
     }
-    Refusal { number: 0, place: 0 }
+    Refusal {
+        number: 0,
+        place: 0,
+    }
 }
 
 // Refusal 13, stage 1.
@@ -105,7 +148,10 @@ pub fn of_inverse(inverse: [[f64; 8]; 8], k: usize) -> Refusal
     ensures { λ r. ⌜ r ≡ inverseRefusal k inverse ⌝ }
 {
     if design::inverse_is_finite(inverse, k) {
-        return Refusal { number: 0, place: 0 };
+        return Refusal {
+            number: 0,
+            place: 0,
+        };
     }
     Refusal {
         number: 13,

@@ -86,9 +86,24 @@ fn test_design(
     if finite.number != 0 {
         return refused(finite);
     }
-    let direct = Leaving { fallback: false, kept: 0, work: Tally::new() };
+    let direct = Leaving {
+        fallback: false,
+        kept: 0,
+        work: Tally::new(),
+    };
     if n < 3 {
-        return paths::accepted(d, 1.0, alternative, n, 1, direct, NormalLaw { mean: 0.0, variance: 0.0 });
+        return paths::accepted(
+            d,
+            1.0,
+            alternative,
+            n,
+            1,
+            direct,
+            NormalLaw {
+                mean: 0.0,
+                variance: 0.0,
+            },
+        );
     }
     if !paths::wants_exact(choice, n) {
         return paths::normal(columns, n, k, inverse, d, alternative, direct);
@@ -133,5 +148,14 @@ pub fn durbin_watson_test(
     if rows.number != 0 {
         return refused(rows);
     }
-    test_design(columns, n, k, checks::statistic(statistic), alternative, choice, matrix, parts)
+    test_design(
+        columns,
+        n,
+        k,
+        checks::statistic(statistic),
+        alternative,
+        choice,
+        matrix,
+        parts,
+    )
 }

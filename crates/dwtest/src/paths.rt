@@ -5,7 +5,6 @@ ghost use lib.ListN.{length, take, drop};
 ghost use Rattle.dwtest.specs.Result.{refusedOf, acceptedOf, exactP, wantsExact, smaller};
 ghost use Rattle.imhof.specs.Imhof.{imhofOf};
 ghost use Rattle.dwtest.specs.Paths.{normalPath, byImhof, exactPath};
-
 use super::Choice;
 use super::Outcome;
 use super::Refusal;
@@ -38,7 +37,10 @@ pub fn refused(why: Refusal) -> Outcome
         kept: 0,
         work: Tally::new(),
         settled: false,
-        law: NormalLaw { mean: 0.0, variance: 0.0 },
+        law: NormalLaw {
+            mean: 0.0,
+            variance: 0.0,
+        },
     }
 }
 
@@ -56,7 +58,10 @@ pub fn accepted(
 {
     let work = left.work;
     Outcome {
-        refusal: Refusal { number: 0, place: 0 },
+        refusal: Refusal {
+            number: 0,
+            place: 0,
+        },
         statistic: d,
         p,
         alternative,
@@ -112,13 +117,38 @@ pub fn normal(
     ensures { λ r. ⌜ r ≡ normalPath (now (columns .entry)) n k inverse d alternative left ⌝ }
 {
     if n < 5 {
-        return accepted(d, 1.0, alternative, n, 4, left, NormalLaw { mean: 0.0, variance: 0.0 });
+        return accepted(
+            d,
+            1.0,
+            alternative,
+            n,
+            4,
+            left,
+            NormalLaw {
+                mean: 0.0,
+                variance: 0.0,
+            },
+        );
     }
     let found = design::check_law(design::normal_law(columns, n, k, inverse));
     match found {
-        LawAnswer::Usable(law) => accepted(d, design::normal_p(law, d, alternative), alternative, n, 3, left, law),
-        LawAnswer::NotFinite => refused(Refusal { number: 13, place: 5 }),
-        LawAnswer::NotSpread => refused(Refusal { number: 14, place: 0 }),
+        LawAnswer::Usable(law) => accepted(
+            d,
+            design::normal_p(law, d, alternative),
+            alternative,
+            n,
+            3,
+            left,
+            law,
+        ),
+        LawAnswer::NotFinite => refused(Refusal {
+            number: 13,
+            place: 5,
+        }),
+        LawAnswer::NotSpread => refused(Refusal {
+            number: 14,
+            place: 0,
+        }),
     }
 }
 
@@ -138,8 +168,23 @@ fn by_imhof(
     ensures { λ r. ⌜ r ≡ byImhof (now (columns .entry)) n k inverse d alternative found kept work ⌝ }
 {
     match found {
-        Exact::NoWeight => normal(columns, n, k, inverse, d, alternative, Leaving { fallback: true, kept, work }),
-        Exact::NotFinite => refused(Refusal { number: 13, place: 4 }),
+        Exact::NoWeight => normal(
+            columns,
+            n,
+            k,
+            inverse,
+            d,
+            alternative,
+            Leaving {
+                fallback: true,
+                kept,
+                work,
+            },
+        ),
+        Exact::NotFinite => refused(Refusal {
+            number: 13,
+            place: 4,
+        }),
         Exact::Value(q) => {
             let tally = q.tally;
             let both = Tally {
@@ -147,8 +192,23 @@ fn by_imhof(
                 bisections: tally.bisections,
                 evaluations: tally.evaluations,
             };
-            let left = Leaving { fallback: false, kept, work: both };
-            accepted(d, exact_p(q.probability, alternative), alternative, n, 2, left, NormalLaw { mean: 0.0, variance: 0.0 })
+            let left = Leaving {
+                fallback: false,
+                kept,
+                work: both,
+            };
+            accepted(
+                d,
+                exact_p(q.probability, alternative),
+                alternative,
+                n,
+                2,
+                left,
+                NormalLaw {
+                    mean: 0.0,
+                    variance: 0.0,
+                },
+            )
         }
     }
 }
@@ -181,8 +241,14 @@ pub fn exact(
     let mut kept = [0.0f64; 256];
     let spectrum = eigen::ma_eigenvalues(columns, n, k, inverse, matrix, &mut kept);
     match spectrum {
-        Spectrum::MatrixNotFinite => refused(Refusal { number: 13, place: 2 }),
-        Spectrum::NumberNotFinite => refused(Refusal { number: 13, place: 3 }),
+        Spectrum::MatrixNotFinite => refused(Refusal {
+            number: 13,
+            place: 2,
+        }),
+        Spectrum::NumberNotFinite => refused(Refusal {
+            number: 13,
+            place: 3,
+        }),
         Spectrum::Kept(s) => {
             let count = s.count;
             let found = probability(&kept, count, d, parts);

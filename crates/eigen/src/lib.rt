@@ -28,7 +28,14 @@ pub enum Spectrum {
 }
 
 // The eigenvalues of the symmetric matrix in the first n² numbers of the room. `d` and `e` are room for its bands, n numbers each.
-fn delivered(room: &mut [f64], n: usize, k: usize, d: &mut [f64], e: &mut [f64], kept: &mut [f64]) -> Spectrum
+fn delivered(
+    room: &mut [f64],
+    n: usize,
+    k: usize,
+    d: &mut [f64],
+    e: &mut [f64],
+    kept: &mut [f64],
+) -> Spectrum
     requires { ⌜ (n * n ≤ length (now room)) × (n ≤ 256) × (k ≤ n) × (Symmetric n (take (n * n) (now room))) × (length (now d) ≡ n) × (length (now e) ≡ n) × (n ≤ length (now kept)) ⌝ }
     ensures { λ r. ⌜ r ≡ deliveredOf n k (take (n * n) (now (room .entry))) ⌝ }
     ensures { λ _. ⌜ now (room .exit) ≡ tridiagonalOf n (take (n * n) (now (room .entry))) ++ drop (n * n) (now (room .entry)) ⌝ }
@@ -50,7 +57,14 @@ fn delivered(room: &mut [f64], n: usize, k: usize, d: &mut [f64], e: &mut [f64],
 }
 
 // The kept eigenvalues into the front of `kept`, how many, and the sweeps. The first 2n² numbers of the room are worked in.
-pub fn ma_eigenvalues(columns: &[f64], n: usize, k: usize, inverse: [[f64; 8]; 8], room: &mut [f64], kept: &mut [f64]) -> Spectrum
+pub fn ma_eigenvalues(
+    columns: &[f64],
+    n: usize,
+    k: usize,
+    inverse: [[f64; 8]; 8],
+    room: &mut [f64],
+    kept: &mut [f64],
+) -> Spectrum
     requires { ⌜ (n ≤ 256) × (k ≤ 8) × (k ≤ n) × (k * n ≡ length (now columns)) × (2 * (n * n) ≤ length (now room)) × (n ≤ length (now kept)) ⌝ }
     ensures { λ r. ⌜ r ≡ spectrumOf (now (columns .entry)) inverse n k ⌝ }
     ensures { λ _. ⌜ now (kept .exit) ≡ keptNumbers (now (columns .entry)) inverse n k ++ drop (length (keptNumbers (now (columns .entry)) inverse n k)) (now (kept .entry)) ⌝ }

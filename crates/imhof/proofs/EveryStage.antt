@@ -58,7 +58,6 @@ module _ (f : Float → Float) (P : List Part → Tally → Type 0) (keeps : (ps
   every-stage a b fine h (suc k) =
       subst (λ z. P (z .parts) (z .tally)) (sym (stage-next f a b k) ∙ ap (λ n. stageAfter n f a b) (add-one k)) (let now = every-stage a b fine h k in next-cases f P (stageAfter k f a b) now (λ e. keeps _ _ e now))
 
-
 -- ---- what every part of a list has
 
 module _ (P : Part → Type 0) where

@@ -51,19 +51,20 @@ module _ (f : Float → Float) (a b : Float) where
         let more : length bs ≡ k + 1 + 1 = length-split f ps t (omega arith) ∙ ap (λ n. n + 1) few in
         let laid : after ≡ laidOut bs room = at ∙ ap (λ z. laidOut (z .parts) room) s in
         let back : partsIn (k + 1 + 1) after ≡ bs = ap (λ n. partsIn n after) (sym more) ∙ ap (partsIn (length bs)) laid ∙ in-laid bs room (omega arith) fit in
-        let tallied : u ≡ oneRule (oneRule (oneBisection t)) = ut ∙ ap (λ z. z .tally) s in
-        (tallied, (
-          next ∙ s ∙ ap (λ l. stage l (oneRule (oneRule (oneBisection t))) Open) (sym back) ∙ ap (λ v. stage (partsIn (k + 1 + 1) after) v Open) (sym tallied),
-          laid ∙ ap (laidOut bs) (held .1) ∙ laid-over ps bs r (omega arith) (omega arith) ∙ ap (λ l. laidOut l r) (sym back),
-        ))
+        let tallied : u ≡ oneRule (oneRule (oneBisection t)) = ut ∙ ap (λ z. z .tally) s in (
+          tallied,
+          (
+            next ∙ s ∙ ap (λ l. stage l (oneRule (oneRule (oneBisection t))) Open) (sym back) ∙ ap (λ v. stage (partsIn (k + 1 + 1) after) v Open) (sym tallied),
+            laid ∙ ap (laidOut bs) (held .1) ∙ laid-over ps bs r (omega arith) (omega arith) ∙ ap (λ l. laidOut l r) (sym back),
+          ),
+        )
 
     -- a stage that is settled, or refused, is the last, and it leaves the room as it was
     last : (after : List Float) (u : Tally) (end : Standing) → nextStage f (stage ps t Open) ≡ stage ps t end → nextStage f (stage ps t end) ≡ stage ps t end
         → u ≡ nextStage f (stage ps t Open) .tally → after ≡ laidOut (nextStage f (stage ps t Open) .parts) room
         → (stageAfter 2000 f a b ≡ stage (partsIn (k + 1) after) u end) × (after ≡ laidOut (partsIn (k + 1) after) r)
     last after u end s stays ut at =
-        let same : after ≡ room = at ∙ ap (λ z. laidOut (z .parts) room) s ∙ laid-in (k + 1) room in
-        (
+        let same : after ≡ room = at ∙ ap (λ z. laidOut (z .parts) room) s ∙ laid-in (k + 1) room in (
           stage-stays f a b (stage ps t end) (k + 1) 2000 (omega arith) (next ∙ s) stays ∙ ap₂ (λ l v. stage (partsIn (k + 1) l) v end) (sym same) (sym (ut ∙ ap (λ z. z .tally) s)),
           rw same (held .1),
         )

@@ -51,9 +51,10 @@ finite-stage : (f : Float → Float) (a b : Float) → All FinitePart (stageAfte
 finite-stage f a b = go (finitePart (gk15Of f a b)) refl
   where
     keeps : (ps : List Part) (t : Tally) → finiteHalves f ps t ≡ true → (0 < length ps) × All FinitePart ps → (0 < length (split f ps t .parts)) × All FinitePart (split f ps t .parts)
-    keeps ps t e h =
-        (omega (arith, length-split f ps t (h .0)),
-        all-bisected FinitePart f ps (h .0) (both-left (finitePart (leftHalf f (partAt ps (worstOf ps)))) (finitePart (rightHalf f (partAt ps (worstOf ps)))) e) (both-right (finitePart (leftHalf f (partAt ps (worstOf ps)))) (finitePart (rightHalf f (partAt ps (worstOf ps)))) e) (h .1))
+    keeps ps t e h = (
+      omega (arith, length-split f ps t (h .0)),
+      all-bisected FinitePart f ps (h .0) (both-left (finitePart (leftHalf f (partAt ps (worstOf ps)))) (finitePart (rightHalf f (partAt ps (worstOf ps)))) e) (both-right (finitePart (leftHalf f (partAt ps (worstOf ps)))) (finitePart (rightHalf f (partAt ps (worstOf ps)))) e) (h .1),
+    )
 
     go : (fine : Bool) → finitePart (gk15Of f a b) ≡ fine → All FinitePart (stageAfter 2000 f a b .parts)
     go true e = every-stage f (λ ps t. (0 < length ps) × All FinitePart ps) keeps a b e (omega arith, (e, tt)) 2000 .1

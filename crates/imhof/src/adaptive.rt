@@ -9,10 +9,14 @@ ghost use Rattle.imhof.specs.Integrand.{integrandOf};
 ghost use Rattle.imhof.specs.Parts.{finitePart, stage, nextStage, stageAfter};
 ghost use Rattle.imhof.specs.Room.{partsIn, laidOut};
 ghost use Rattle.imhof.specs.declared.Standing.the-variants.{Open};
-
-use super::{Integral, Part, Quadrature, Standing};
+use super::Integral;
+use super::Part;
+use super::Quadrature;
+use super::Standing;
 use super::room;
-use super::rule::{Halves, bisect, gk15};
+use super::rule::Halves;
+use super::rule::bisect;
+use super::rule::gk15;
 use floats::tally::Tally;
 
 // Half of 1e-11: the cuts of the range and the quadrature share it.

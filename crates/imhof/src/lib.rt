@@ -6,11 +6,10 @@ ghost use lib.ListN.{length};
 ghost use Rattle.imhof.specs.Imhof.{imhofOf, outcomeBy, clampOf, estimateOf};
 ghost use Rattle.imhof.specs.Weights.{signsOf};
 ghost use Rattle.imhof.specs.Room.{laidOut};
-
 use floats::tally::Tally;
 
-mod integrand;
 pub mod adaptive;
+mod integrand;
 mod range;
 mod room;
 mod rule;

@@ -6,7 +6,6 @@ ghost use Rattle.floats.specs.Sums.{sumRun};
 ghost use Rattle.imhof.specs.Parts.{valuesOf, errorsOf, worstOf, bisectedAt, lastGreatest, partAt, without};
 ghost use Rattle.imhof.specs.Room.{stored, storedAt, partsIn, laidOut};
 ghost use mathlib.Core.List.{_++_, _∷_, []};
-
 use super::Part;
 
 pub fn part_at(room: &[f64], i: usize) -> Part

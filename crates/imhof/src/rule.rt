@@ -3,7 +3,6 @@ ghost use mathlib.Core.Path.{_≡_};
 ghost use Rattle.imhof.specs.Integrand.{integrandOf};
 ghost use Rattle.imhof.specs.Parts.{leftHalf, rightHalf};
 ghost use Rattle.imhof.specs.Rule.{gk15Of};
-
 use super::Part;
 use super::integrand::integrand;
 

@@ -55,8 +55,11 @@ module _ (n c : ℕ) (a v : List Float) where
       let w : start + m ≡ (c + 1 + t) * n + n = omega arith in
       rw (length-image t, w, z)
       (table-same (λ i. imageTo t ‼ i ⊕ part ((c + 1 + t) * n + (c + 1)) ((c + 1 + t) * n + n) a ‼ i ⊗ v ‼ t) (λ i. sumOf (t + 1) (λ j. entry n a (c + 1 + j) (c + 1 + i) ⊗ v ‼ j)) (below n c)
-      (λ i k. rw (getD-table (λ i. sumOf t (λ j. entry n a (c + 1 + j) (c + 1 + i) ⊗ v ‼ j)) (below n c) i nan k,
-      part-entry n (c + 1 + t) (c + 1) n i a e (omega arith) (omega arith) (omega arith) k, add-one t)))
+      (λ i k. rw (
+        getD-table (λ i. sumOf t (λ j. entry n a (c + 1 + j) (c + 1 + i) ⊗ v ‼ j)) (below n c) i nan k,
+        part-entry n (c + 1 + t) (c + 1) n i a e (omega arith) (omega arith) (omega arith) k,
+        add-one t,
+      )))
 
   pub image-all : c + 1 < n → Symmetric n a → imageTo (below n c) ≡ imageOf n c a v
   unfolding imageTo imageOf
@@ -224,8 +227,12 @@ module _ (n c : ℕ) (a x : List Float) (s norm alpha : Float) (p : x ≡ column
 module _ (n c : ℕ) (a : List Float) (alpha : Float) (v q : List Float) where
   block-symmetric : Symmetric n a → (i j : ℕ) → i < n → j < n → block n c a v q i j ≡ block n c a v q j i
   block-symmetric s i j h k =
-      rw (s i j h k, sum-swap (v ‼ (i - (c + 1)) ⊗ q ‼ (j - (c + 1))) (q ‼ (i - (c + 1)) ⊗ v ‼ (j - (c + 1))),
-      product-swap (q ‼ (i - (c + 1))) (v ‼ (j - (c + 1))), product-swap (v ‼ (i - (c + 1))) (q ‼ (j - (c + 1))))
+      rw (
+        s i j h k,
+        sum-swap (v ‼ (i - (c + 1)) ⊗ q ‼ (j - (c + 1))) (q ‼ (i - (c + 1)) ⊗ v ‼ (j - (c + 1))),
+        product-swap (q ‼ (i - (c + 1))) (v ‼ (j - (c + 1))),
+        product-swap (v ‼ (i - (c + 1))) (q ‼ (j - (c + 1))),
+      )
 
   reflected-entry-symmetric : Symmetric n a → (i j : ℕ) → i < n → j < n → reflectedEntry n c a alpha v q i j ≡ reflectedEntry n c a alpha v q j i
   unfolding reflectedEntry

@@ -6,6 +6,7 @@ ghost use lib.ListN.{length, drop};
 ghost use Rattle.tridiagonal.specs.Matrix.{Symmetric};
 ghost use Rattle.tridiagonal.specs.Reflection.{tridiagonalOf};
 ghost use Rattle.tridiagonal.specs.Bands.{diagonalOf, coupling, couplingsOf};
+
 mod reflection;
 mod rows;
 

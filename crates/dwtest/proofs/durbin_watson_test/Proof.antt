@@ -43,7 +43,7 @@ refused-requires-2 : tie.Need-refused-requires-2
 refused-requires-2 c κs = search needs
 
 returns-2 : tie.Need-returns-2
-returns-2 c = let s = statistic-refused (c .before .before .before .before .before .before .before .before .before .before .before .before .before .args .residuals .now) (c .before .before .before .before .before .before .before .before .before .before .before .before .before .args .columns .now) (c .before .before .before .before .before .before .before .before .before .before .before .before .before .args .k) (c .before .before .before .before .before .before .before .before .before .before .before .before .before .args .alternative) (c .before .before .before .before .before .before .before .before .before .before .before .before .before .args .choice) (length (c .before .before .before .before .before .before .before .before .before .before .before .before .before .args .matrix .now)) (length (c .before .before .before .before .before .before .before .before .before .before .before .before .before .args .parts .now)) _ (sym (c .before .before .before .before .before .before .before .before .check-columns .ensures)) (ap passes (sym (c .before .before .before .before .before .before .before .of-columns .ensures)) ∙ eq-eqb _ _ (c .before .before .before .before .before .if1 .left)) _ (sym (c .before .before .before .before .durbin-watson .ensures))  (ap passes (sym (c .before .before .before .of-statistic .ensures)) ∙ ne-eqb _ _ (c .before .if2 .taken)) in (c .refused2 .ensures ∙ ap refusedOf (c .before .before .before .of-statistic .ensures) ∙ sym (s .0), (untouched _ (2 * ((length (c .before .before .before .before .before .before .before .before .before .before .before .before .before .args .residuals .now)) * (length (c .before .before .before .before .before .before .before .before .before .before .before .before .before .args .residuals .now)))) (c .before .before .before .before .before .before .before .before .before .before .before .before .before .args .matrix .now) (s .1), untouched _ 8004 (c .before .before .before .before .before .before .before .before .before .before .before .before .before .args .parts .now) (s .1)))
+returns-2 c = let s = statistic-refused (c .before .before .before .before .before .before .before .before .before .before .before .before .before .args .residuals .now) (c .before .before .before .before .before .before .before .before .before .before .before .before .before .args .columns .now) (c .before .before .before .before .before .before .before .before .before .before .before .before .before .args .k) (c .before .before .before .before .before .before .before .before .before .before .before .before .before .args .alternative) (c .before .before .before .before .before .before .before .before .before .before .before .before .before .args .choice) (length (c .before .before .before .before .before .before .before .before .before .before .before .before .before .args .matrix .now)) (length (c .before .before .before .before .before .before .before .before .before .before .before .before .before .args .parts .now)) _ (sym (c .before .before .before .before .before .before .before .before .check-columns .ensures)) (ap passes (sym (c .before .before .before .before .before .before .before .of-columns .ensures)) ∙ eq-eqb _ _ (c .before .before .before .before .before .if1 .left)) _ (sym (c .before .before .before .before .durbin-watson .ensures)) (ap passes (sym (c .before .before .before .of-statistic .ensures)) ∙ ne-eqb _ _ (c .before .if2 .taken)) in (c .refused2 .ensures ∙ ap refusedOf (c .before .before .before .of-statistic .ensures) ∙ sym (s .0), (untouched _ (2 * ((length (c .before .before .before .before .before .before .before .before .before .before .before .before .before .args .residuals .now)) * (length (c .before .before .before .before .before .before .before .before .before .before .before .before .before .args .residuals .now)))) (c .before .before .before .before .before .before .before .before .before .before .before .before .before .args .matrix .now) (s .1), untouched _ 8004 (c .before .before .before .before .before .before .before .before .before .before .before .before .before .args .parts .now) (s .1)))
 
 of-rows-requires : tie.Need-of-rows-requires
 of-rows-requires c κs = search needs
@@ -52,7 +52,7 @@ refused-requires-3 : tie.Need-refused-requires-3
 refused-requires-3 c κs = search needs
 
 returns-3 : tie.Need-returns-3
-returns-3 c = let s = rows-refused (c .before .before .before .before .before .before .before .before .before .before .before .before .before .before .before .before .args .residuals .now) (c .before .before .before .before .before .before .before .before .before .before .before .before .before .before .before .before .args .columns .now) (c .before .before .before .before .before .before .before .before .before .before .before .before .before .before .before .before .args .k) (c .before .before .before .before .before .before .before .before .before .before .before .before .before .before .before .before .args .alternative) (c .before .before .before .before .before .before .before .before .before .before .before .before .before .before .before .before .args .choice) (length (c .before .before .before .before .before .before .before .before .before .before .before .before .before .before .before .before .args .matrix .now)) (length (c .before .before .before .before .before .before .before .before .before .before .before .before .before .before .before .before .args .parts .now)) _ (sym (c .before .before .before .before .before .before .before .before .before .before .before .check-columns .ensures)) (ap passes (sym (c .before .before .before .before .before .before .before .before .before .before .of-columns .ensures)) ∙ eq-eqb _ _ (c .before .before .before .before .before .before .before .before .if1 .left)) _ (sym (c .before .before .before .before .before .before .before .durbin-watson .ensures))  (ap passes (sym (c .before .before .before .before .before .before .of-statistic .ensures)) ∙ eq-eqb _ _ (c .before .before .before .before .if2 .left)) (ap passes (sym (c .before .before .before .of-rows .ensures)) ∙ ne-eqb _ _ (c .before .if3 .taken)) in (c .refused3 .ensures ∙ ap refusedOf (c .before .before .before .of-rows .ensures) ∙ sym (s .0), (untouched _ (2 * ((length (c .before .before .before .before .before .before .before .before .before .before .before .before .before .before .before .before .args .residuals .now)) * (length (c .before .before .before .before .before .before .before .before .before .before .before .before .before .before .before .before .args .residuals .now)))) (c .before .before .before .before .before .before .before .before .before .before .before .before .before .before .before .before .args .matrix .now) (s .1), untouched _ 8004 (c .before .before .before .before .before .before .before .before .before .before .before .before .before .before .before .before .args .parts .now) (s .1)))
+returns-3 c = let s = rows-refused (c .before .before .before .before .before .before .before .before .before .before .before .before .before .before .before .before .args .residuals .now) (c .before .before .before .before .before .before .before .before .before .before .before .before .before .before .before .before .args .columns .now) (c .before .before .before .before .before .before .before .before .before .before .before .before .before .before .before .before .args .k) (c .before .before .before .before .before .before .before .before .before .before .before .before .before .before .before .before .args .alternative) (c .before .before .before .before .before .before .before .before .before .before .before .before .before .before .before .before .args .choice) (length (c .before .before .before .before .before .before .before .before .before .before .before .before .before .before .before .before .args .matrix .now)) (length (c .before .before .before .before .before .before .before .before .before .before .before .before .before .before .before .before .args .parts .now)) _ (sym (c .before .before .before .before .before .before .before .before .before .before .before .check-columns .ensures)) (ap passes (sym (c .before .before .before .before .before .before .before .before .before .before .of-columns .ensures)) ∙ eq-eqb _ _ (c .before .before .before .before .before .before .before .before .if1 .left)) _ (sym (c .before .before .before .before .before .before .before .durbin-watson .ensures)) (ap passes (sym (c .before .before .before .before .before .before .of-statistic .ensures)) ∙ eq-eqb _ _ (c .before .before .before .before .if2 .left)) (ap passes (sym (c .before .before .before .of-rows .ensures)) ∙ ne-eqb _ _ (c .before .if3 .taken)) in (c .refused3 .ensures ∙ ap refusedOf (c .before .before .before .of-rows .ensures) ∙ sym (s .0), (untouched _ (2 * ((length (c .before .before .before .before .before .before .before .before .before .before .before .before .before .before .before .before .args .residuals .now)) * (length (c .before .before .before .before .before .before .before .before .before .before .before .before .before .before .before .before .args .residuals .now)))) (c .before .before .before .before .before .before .before .before .before .before .before .before .before .before .before .before .args .matrix .now) (s .1), untouched _ 8004 (c .before .before .before .before .before .before .before .before .before .before .before .before .before .before .before .before .args .parts .now) (s .1)))
 
 statistic-requires : tie.Need-statistic-requires
 statistic-requires c κs = search needs
@@ -67,7 +67,7 @@ same-length-2 : tie.Need-same-length-2
 same-length-2 c = search needs
 
 returns-4 : tie.Need-returns-4
-returns-4 c = let s = runs-pass (c .before .before .before .before .before .before .before .before .before .before .before .before .before .before .before .before .before .before .before .before .before .before .before .args .residuals .now) (c .before .before .before .before .before .before .before .before .before .before .before .before .before .before .before .before .before .before .before .before .before .before .before .args .columns .now) (c .before .before .before .before .before .before .before .before .before .before .before .before .before .before .before .before .before .before .before .before .before .before .before .args .k) (c .before .before .before .before .before .before .before .before .before .before .before .before .before .before .before .before .before .before .before .before .before .before .before .args .alternative) (c .before .before .before .before .before .before .before .before .before .before .before .before .before .before .before .before .before .before .before .before .before .before .before .args .choice) (length (c .before .before .before .before .before .before .before .before .before .before .before .before .before .before .before .before .before .before .before .before .before .before .before .args .matrix .now)) (length (c .before .before .before .before .before .before .before .before .before .before .before .before .before .before .before .before .before .before .before .before .before .before .before .args .parts .now)) _ (sym (c .before .before .before .before .before .before .before .before .before .before .before .before .before .before .before .before .before .before .check-columns .ensures)) (ap passes (sym (c .before .before .before .before .before .before .before .before .before .before .before .before .before .before .before .before .before .of-columns .ensures)) ∙ eq-eqb _ _ (c .before .before .before .before .before .before .before .before .before .before .before .before .before .before .before .if1 .left)) _ (sym (c .before .before .before .before .before .before .before .before .before .before .before .before .before .before .durbin-watson .ensures))  (ap passes (sym (c .before .before .before .before .before .before .before .before .before .before .before .before .before .of-statistic .ensures)) ∙ eq-eqb _ _ (c .before .before .before .before .before .before .before .before .before .before .before .if2 .left)) (ap passes (sym (c .before .before .before .before .before .before .before .before .before .before .of-rows .ensures)) ∙ eq-eqb _ _ (c .before .before .before .before .before .before .before .before .if3 .left)) in (c .before .before .before .before .test-design .ensures .0 ∙ rw (c .before .before .before .before .before .before .before .statistic .ensures) (sym (s .0)), (c .before .before .before .before .test-design .ensures .1 .0 ∙ rw (s .1), c .before .before .before .before .test-design .ensures .1 .1 ∙ rw (s .1)))
+returns-4 c = let s = runs-pass (c .before .before .before .before .before .before .before .before .before .before .before .before .before .before .before .before .before .before .before .before .before .before .before .args .residuals .now) (c .before .before .before .before .before .before .before .before .before .before .before .before .before .before .before .before .before .before .before .before .before .before .before .args .columns .now) (c .before .before .before .before .before .before .before .before .before .before .before .before .before .before .before .before .before .before .before .before .before .before .before .args .k) (c .before .before .before .before .before .before .before .before .before .before .before .before .before .before .before .before .before .before .before .before .before .before .before .args .alternative) (c .before .before .before .before .before .before .before .before .before .before .before .before .before .before .before .before .before .before .before .before .before .before .before .args .choice) (length (c .before .before .before .before .before .before .before .before .before .before .before .before .before .before .before .before .before .before .before .before .before .before .before .args .matrix .now)) (length (c .before .before .before .before .before .before .before .before .before .before .before .before .before .before .before .before .before .before .before .before .before .before .before .args .parts .now)) _ (sym (c .before .before .before .before .before .before .before .before .before .before .before .before .before .before .before .before .before .before .check-columns .ensures)) (ap passes (sym (c .before .before .before .before .before .before .before .before .before .before .before .before .before .before .before .before .before .of-columns .ensures)) ∙ eq-eqb _ _ (c .before .before .before .before .before .before .before .before .before .before .before .before .before .before .before .if1 .left)) _ (sym (c .before .before .before .before .before .before .before .before .before .before .before .before .before .before .durbin-watson .ensures)) (ap passes (sym (c .before .before .before .before .before .before .before .before .before .before .before .before .before .of-statistic .ensures)) ∙ eq-eqb _ _ (c .before .before .before .before .before .before .before .before .before .before .before .if2 .left)) (ap passes (sym (c .before .before .before .before .before .before .before .before .before .before .of-rows .ensures)) ∙ eq-eqb _ _ (c .before .before .before .before .before .before .before .before .if3 .left)) in (c .before .before .before .before .test-design .ensures .0 ∙ rw (c .before .before .before .before .before .before .before .statistic .ensures) (sym (s .0)), (c .before .before .before .before .test-design .ensures .1 .0 ∙ rw (s .1), c .before .before .before .before .test-design .ensures .1 .1 ∙ rw (s .1)))
 
 pub durbin-watson-test-spec : {M : Type 1} → statement M
 durbin-watson-test-spec =

@@ -32,7 +32,7 @@ clamped-requires : tie.Need-clamped-requires
 clamped-requires c κs = search needs
 
 returns-2 : tie.Need-returns-2
-returns-2 c =     let ws = c .before .before .before .before .before .before .before .args .weights .now in
+returns-2 c = let ws = c .before .before .before .before .before .before .before .args .weights .now in
     let s : signsOf ws ≡ above = signs-some ws (c .before .before .before .before .if1 .left) ∙ ap (λ b. signsBy b (allBelow ws)) (sym (c .before .before .before .all-above .ensures) ∙ c .before .before .if2 .taken) in
     rw s (ap Value (c .clamped .ensures ∙ ap (estimateOf _) (c .before .new .ensures)), sym (laid-none (c .before .before .before .before .before .before .before .args .parts .now)))
 
@@ -46,7 +46,7 @@ clamped-requires-2 : tie.Need-clamped-requires-2
 clamped-requires-2 c κs = search needs
 
 returns-3 : tie.Need-returns-3
-returns-3 c =     let ws = c .before .before .before .before .before .before .before .before .before .args .weights .now in
+returns-3 c = let ws = c .before .before .before .before .before .before .before .before .before .args .weights .now in
     let s : signsOf ws ≡ below = signs-some ws (c .before .before .before .before .before .before .if1 .left) ∙ rw (sym (c .before .before .before .before .before .all-above .ensures) ∙ c .before .before .before .before .if2 .left, sym (c .before .before .before .all-below .ensures) ∙ c .before .before .if3 .taken) in
     rw s (ap Value (c .clamped2 .ensures ∙ ap (estimateOf _) (c .before .new2 .ensures)), sym (laid-none (c .before .before .before .before .before .before .before .before .before .args .parts .now)))
 
@@ -66,7 +66,7 @@ same-length : tie.Need-same-length
 same-length c = search needs
 
 returns-4 : tie.Need-returns-4
-returns-4 c =     let ws = c .before .before .before .before .before .before .before .before .before .before .before .before .before .before .before .before .args .weights .now in
+returns-4 c = let ws = c .before .before .before .before .before .before .before .before .before .before .before .before .before .before .before .before .args .weights .now in
     let s : signsOf ws ≡ mixed = signs-some ws (c .before .before .before .before .before .before .before .before .before .before .before .before .before .if1 .left) ∙ rw (sym (c .before .before .before .before .before .before .before .before .before .before .before .before .all-above .ensures) ∙ c .before .before .before .before .before .before .before .before .before .before .before .if2 .left, sym (c .before .before .before .before .before .before .before .before .before .before .all-below .ensures) ∙ c .before .before .before .before .before .before .before .before .before .if3 .left) in
     rw s (ap Value (c .clamped3 .ensures) ∙ ap exactBy (sym (c .before .before .before .found .given .1) ∙ c .before .before .before .before .before .before .before .over-range .ensures .0), c .before .before .before .before .before .before .before .over-range .ensures .1)
 
@@ -74,7 +74,7 @@ same-length-2 : tie.Need-same-length-2
 same-length-2 c = search needs
 
 returns-5 : tie.Need-returns-5
-returns-5 c =     let ws = c .before .before .before .before .before .before .before .before .before .before .before .before .before .args .weights .now in
+returns-5 c = let ws = c .before .before .before .before .before .before .before .before .before .before .before .before .before .args .weights .now in
     let s : signsOf ws ≡ mixed = signs-some ws (c .before .before .before .before .before .before .before .before .before .before .if1 .left) ∙ rw (sym (c .before .before .before .before .before .before .before .before .before .all-above .ensures) ∙ c .before .before .before .before .before .before .before .before .if2 .left, sym (c .before .before .before .before .before .before .before .all-below .ensures) ∙ c .before .before .before .before .before .before .if3 .left) in
     rw s (ap exactBy (sym (c .enum-told .given .1) ∙ c .before .before .before .before .over-range .ensures .0), c .before .before .before .before .over-range .ensures .1)
 

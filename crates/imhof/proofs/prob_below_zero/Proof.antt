@@ -24,12 +24,12 @@ array-share-prefix-weights : tie.Need-array-share-prefix-weights
 array-share-prefix-weights c = omega (arith, c .before .shift .ensures .0, length-weights (c .before .before .before .before .before .args .eigenvalues .now) (c .before .before .before .before .before .args .d), c .before .shift .kept .1 .1 .0, c .before .before .before .before .before .pre .0)
 
 slice-aggregate-below-zero : tie.Need-slice-aggregate-below-zero
-slice-aggregate-below-zero c =     let ws = weightsOf (c .before .before .before .before .before .before .args .eigenvalues .now) (c .before .before .before .before .before .before .args .d) in
+slice-aggregate-below-zero c = let ws = weightsOf (c .before .before .before .before .before .before .args .eigenvalues .now) (c .before .before .before .before .before .before .args .d) in
     let taken : take (c .before .before .shift .result) (c .before .before .shift .last .1 .1 .0) ≡ ws = ap (take (c .before .before .shift .result)) (c .before .before .shift .ensures .1) ∙ take-at ws _ (c .before .before .shift .result) (sym (c .before .before .shift .ensures .0)) in
     c .before .before .shift .ensures .0 ∙ ap length (sym taken)
 
 below-zero-requires : tie.Need-below-zero-requires
-below-zero-requires c κs =     let ws = weightsOf (c .before .before .before .before .before .before .before .args .eigenvalues .now) (c .before .before .before .before .before .before .before .args .d) in
+below-zero-requires c κs = let ws = weightsOf (c .before .before .before .before .before .before .before .args .eigenvalues .now) (c .before .before .before .before .before .before .before .args .d) in
     let taken : take (c .before .before .before .shift .result) (c .before .before .before .shift .last .1 .1 .0) ≡ ws = ap (take (c .before .before .before .shift .result)) (c .before .before .before .shift .ensures .1) ∙ take-at ws _ (c .before .before .before .shift .result) (sym (c .before .before .before .shift .ensures .0)) in
     (rw taken (omega (arith, length-weights (c .before .before .before .before .before .before .before .args .eigenvalues .now) (c .before .before .before .before .before .before .before .args .d), c .before .before .before .before .before .before .before .pre .0)), c .before .before .before .before .before .before .before .pre .1)
 
@@ -38,7 +38,7 @@ same-length c = search needs
 
 returns : tie.Need-returns
 unfolding imhofOf
-returns c =     let ws = weightsOf (c .before .before .before .before .before .before .before .before .before .before .args .eigenvalues .now) (c .before .before .before .before .before .before .before .before .before .before .args .d) in
+returns c = let ws = weightsOf (c .before .before .before .before .before .before .before .before .before .before .args .eigenvalues .now) (c .before .before .before .before .before .before .before .before .before .before .args .d) in
     let taken : take (c .before .before .before .before .before .before .shift .result) (c .before .before .before .before .before .before .shift .last .1 .1 .0) ≡ ws = ap (take (c .before .before .before .before .before .before .shift .result)) (c .before .before .before .before .before .before .shift .ensures .1) ∙ take-at ws _ (c .before .before .before .before .before .before .shift .result) (sym (c .before .before .before .before .before .before .shift .ensures .0)) in
     rw taken at (c .before .before .below-zero .ensures)
 

@@ -31,7 +31,7 @@ same-length : tie.Need-same-length
 same-length c = search needs
 
 returns : tie.Need-returns
-returns c =     let f = integrandOf (c .before .before .before .before .before .args .weights .now) in
+returns c = let f = integrandOf (c .before .before .before .before .before .args .weights .now) in
     let r = c .before .before .before .before .before .args .parts .now in
     let ps = partsIn (c .before .before .before .before .before .args .n) r in
     let small : le (sumRun (errorsOf ps)) tolerance ≡ true = rw (← c .before .error-sum .ensures) (c .if1 .taken) in
@@ -53,7 +53,7 @@ same-length-2 : tie.Need-same-length-2
 same-length-2 c = search needs
 
 returns-2 : tie.Need-returns-2
-returns-2 c =     let f = integrandOf (c .before .before .before .before .before .before .before .before .before .before .before .before .args .weights .now) in
+returns-2 c = let f = integrandOf (c .before .before .before .before .before .before .before .before .before .before .before .before .args .weights .now) in
     let r = c .before .before .before .before .before .before .before .before .before .before .before .before .args .parts .now in
     let ps = partsIn (c .before .before .before .before .before .before .before .before .before .before .before .before .args .n) r in
     let more : le (sumRun (errorsOf ps)) tolerance ≡ false = rw (← c .before .before .before .before .before .before .before .before .error-sum .ensures) (c .before .before .before .before .before .before .before .if1 .left) in
@@ -80,7 +80,7 @@ same-length-3 : tie.Need-same-length-3
 same-length-3 c = search needs
 
 returns-3 : tie.Need-returns-3
-returns-3 c =     let f = integrandOf (c .before .before .before .before .before .before .before .before .before .before .before .before .before .before .before .before .before .before .before .args .weights .now) in
+returns-3 c = let f = integrandOf (c .before .before .before .before .before .before .before .before .before .before .before .before .before .before .before .before .before .before .before .args .weights .now) in
     let r = c .before .before .before .before .before .before .before .before .before .before .before .before .before .before .before .before .before .before .before .args .parts .now in
     let ps = partsIn (c .before .before .before .before .before .before .before .before .before .before .before .before .before .before .before .before .before .before .before .args .n) r in
     let more : le (sumRun (errorsOf ps)) tolerance ≡ false = rw (← c .before .before .before .before .before .before .before .before .before .before .before .before .before .before .before .error-sum .ensures) (c .before .before .before .before .before .before .before .before .before .before .before .before .before .before .if1 .left) in

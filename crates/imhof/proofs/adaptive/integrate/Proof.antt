@@ -44,7 +44,7 @@ is-finite-part-requires : tie.Need-is-finite-part-requires Inv-loop μ-loop
 is-finite-part-requires c κs = search needs
 
 returns : tie.Need-returns Inv-loop μ-loop
-returns c =     let e = first-refused (integrandOf (c .before .before .before .before .before .args .weights .now)) (c .before .before .before .before .before .args .lo) (c .before .before .before .before .before .args .hi) (ap finitePart (sym (c .before .before .gk15 .ensures)) ∙ sym (c .before .is-finite-part .ensures) ∙ not-true (c .before .is-finite-part .result) (c .if1 .taken)) in
+returns c = let e = first-refused (integrandOf (c .before .before .before .before .before .args .weights .now)) (c .before .before .before .before .before .args .lo) (c .before .before .before .before .before .args .hi) (ap finitePart (sym (c .before .before .gk15 .ensures)) ∙ sym (c .before .is-finite-part .ensures) ∙ not-true (c .before .is-finite-part .result) (c .if1 .taken)) in
     (ap quadratureOf (sym e), sym (ap (λ s. laidOut (s .parts) (c .before .before .before .before .before .args .parts .now)) e ∙ laid-none (c .before .before .before .before .before .args .parts .now)))
 
 put-requires : tie.Need-put-requires Inv-loop μ-loop
@@ -57,7 +57,7 @@ evaluated-requires : tie.Need-evaluated-requires Inv-loop μ-loop
 evaluated-requires c κs = rw (c .new .ensures) (lit< tt)
 
 loop-holds : tie.Need-loop-holds Inv-loop μ-loop
-loop-holds c =     let f = integrandOf (c .before .before .before .before .before .before .before .before .before .before .before .args .weights .now) in
+loop-holds c = let f = integrandOf (c .before .before .before .before .before .before .before .before .before .before .before .args .weights .now) in
     let r = c .before .before .before .before .before .before .before .before .before .before .before .args .parts .now in
     let work : c .evaluated .result ≡ oneRule noWork = c .evaluated .ensures ∙ ap (evaluated 15) (c .before .new .ensures) in
     let at : c .before .before .before .before .put .last .0 ≡ stored 0 (gk15Of f (c .before .before .before .before .before .before .before .before .before .before .before .args .lo) (c .before .before .before .before .before .before .before .before .before .before .before .args .hi)) r = c .before .before .before .before .put .ensures ∙ ap (λ p. stored 0 p r) (c .before .before .before .before .before .before .before .before .gk15 .ensures) in
@@ -86,7 +86,7 @@ same-length : tie.Need-same-length Inv-loop μ-loop
 same-length c = c .before .before .before .before .before .before .before .advance .kept .1 .0 ∙ c .before .before .before .before .before .before .before .before .before .before .loop .inv .1 ∙ c .before .before .before .before .before .before .before .before .before .before .before .before .before .before .before .put .kept .0
 
 returns-2 : tie.Need-returns-2 Inv-loop μ-loop
-returns-2 c =     let f = integrandOf (c .before .before .before .before .before .before .before .before .before .before .before .before .before .before .before .before .before .before .before .before .before .before .args .weights .now) in
+returns-2 c = let f = integrandOf (c .before .before .before .before .before .before .before .before .before .before .before .before .before .before .before .before .before .before .before .before .before .before .args .weights .now) in
     let end = held-settled f (c .before .before .before .before .before .before .before .before .before .before .before .before .before .before .before .before .before .before .before .before .before .before .args .lo) (c .before .before .before .before .before .before .before .before .before .before .before .before .before .before .before .before .before .before .before .before .before .before .args .hi) (c .before .before .before .before .before .before .before .before .before .before .before .before .before .before .before .put .last .0) (c .before .before .before .before .before .before .before .before .before .before .loop .parts) (c .before .before .before .before .before .before .before .before .before .before .loop .tally) (c .before .before .before .before .before .before .before .before .before .before .loop .k) (c .before .before .before .before .before .before .before .before .before .loop-test .taken) (omega (arith, c .before .before .before .before .before .before .before .before .before .before .loop .inv .1, c .before .before .before .before .before .before .before .before .before .before .loop .inv .2)) (c .before .before .before .before .before .before .before .before .before .before .loop .inv .5)
     (c .before .before .before .before .before .before .before .advance .last .1 .0) (c .before .before .before .before .before .before .before .advance .result .tally) (sym (c .before .before .before .before .before .before .before .advance .ensures .0) ∙ c .before .before .enum-told2 .given .1) (c .before .before .before .before .before .before .before .advance .ensures .1 .0) (c .before .before .before .before .before .before .before .advance .ensures .1 .1) in
     (ap Sum (c .total .ensures) ∙ sym (ap quadratureOf (end .0)), held-over f (c .before .before .before .before .before .before .before .before .before .before .before .before .before .before .before .before .before .before .before .before .before .before .args .lo) (c .before .before .before .before .before .before .before .before .before .before .before .before .before .before .before .before .before .before .before .before .before .before .args .hi) (c .before .before .before .before .before .before .before .before .before .before .before .before .before .before .before .before .before .before .before .gk15 .result) (c .before .before .before .before .before .before .before .before .before .before .before .before .before .before .before .before .before .before .before .before .before .before .args .parts .now) (c .before .before .before .before .before .before .before .before .before .before .before .before .before .before .before .put .last .0) (c .before .before .before .before .before .before .before .advance .last .1 .0) (c .before .before .before .before .before .before .before .before .before .before .loop .k + 1) (c .before .before .before .before .before .before .before .advance .result .tally) Settled (omega arith) (omega (arith, c .before .before .before .before .before .before .before .before .before .loop-test .taken)) (c .before .before .before .before .before .before .before .before .before .before .before .before .before .before .before .put .ensures) end)
@@ -98,7 +98,7 @@ same-length-2 : tie.Need-same-length-2 Inv-loop μ-loop
 same-length-2 c = c .before .before .before .before .before .advance .kept .1 .0 ∙ c .before .before .before .before .before .before .before .before .loop .inv .1 ∙ c .before .before .before .before .before .before .before .before .before .before .before .before .before .put .kept .0
 
 returns-3 : tie.Need-returns-3 Inv-loop μ-loop
-returns-3 c =     let f = integrandOf (c .before .before .before .before .before .before .before .before .before .before .before .before .before .before .before .before .before .before .before .before .args .weights .now) in
+returns-3 c = let f = integrandOf (c .before .before .before .before .before .before .before .before .before .before .before .before .before .before .before .before .before .before .before .before .args .weights .now) in
     let end = held-refused f (c .before .before .before .before .before .before .before .before .before .before .before .before .before .before .before .before .before .before .before .before .args .lo) (c .before .before .before .before .before .before .before .before .before .before .before .before .before .before .before .before .before .before .before .before .args .hi) (c .before .before .before .before .before .before .before .before .before .before .before .before .before .put .last .0) (c .before .before .before .before .before .before .before .before .loop .parts) (c .before .before .before .before .before .before .before .before .loop .tally) (c .before .before .before .before .before .before .before .before .loop .k) (c .before .before .before .before .before .before .before .loop-test .taken) (omega (arith, c .before .before .before .before .before .before .before .before .loop .inv .1, c .before .before .before .before .before .before .before .before .loop .inv .2)) (c .before .before .before .before .before .before .before .before .loop .inv .5)
     (c .before .before .before .before .before .advance .last .1 .0) (c .before .before .before .before .before .advance .result .tally) (sym (c .before .before .before .before .before .advance .ensures .0) ∙ c .enum-told3 .given .1) (c .before .before .before .before .before .advance .ensures .1 .0) (c .before .before .before .before .before .advance .ensures .1 .1) in
     (sym (ap quadratureOf (end .0)), held-over f (c .before .before .before .before .before .before .before .before .before .before .before .before .before .before .before .before .before .before .before .before .args .lo) (c .before .before .before .before .before .before .before .before .before .before .before .before .before .before .before .before .before .before .before .before .args .hi) (c .before .before .before .before .before .before .before .before .before .before .before .before .before .before .before .before .before .gk15 .result) (c .before .before .before .before .before .before .before .before .before .before .before .before .before .before .before .before .before .before .before .before .args .parts .now) (c .before .before .before .before .before .before .before .before .before .before .before .before .before .put .last .0) (c .before .before .before .before .before .advance .last .1 .0) (c .before .before .before .before .before .before .before .before .loop .k + 1) (c .before .before .before .before .before .advance .result .tally) Refused (omega arith) (omega (arith, c .before .before .before .before .before .before .before .loop-test .taken)) (c .before .before .before .before .before .before .before .before .before .before .before .before .before .put .ensures) end)
@@ -110,7 +110,7 @@ loop-less : tie.Need-loop-less Inv-loop μ-loop
 loop-less c = search needs
 
 loop-again : tie.Need-loop-again Inv-loop μ-loop
-loop-again c =     let f = integrandOf (c .before .before .before .before .before .before .before .before .before .before .before .before .before .before .before .before .before .before .before .before .args .weights .now) in
+loop-again c = let f = integrandOf (c .before .before .before .before .before .before .before .before .before .before .before .before .before .before .before .before .before .before .before .before .args .weights .now) in
     let next = held-next f (c .before .before .before .before .before .before .before .before .before .before .before .before .before .before .before .before .before .before .before .before .args .lo) (c .before .before .before .before .before .before .before .before .before .before .before .before .before .before .before .before .before .before .before .before .args .hi) (c .before .before .before .before .before .before .before .before .before .before .before .before .before .put .last .0) (c .before .before .before .before .before .before .before .before .loop .parts) (c .before .before .before .before .before .before .before .before .loop .tally) (c .before .before .before .before .before .before .before .before .loop .k) (c .before .before .before .before .before .before .before .loop-test .taken) (omega (arith, c .before .before .before .before .before .before .before .before .loop .inv .1, c .before .before .before .before .before .before .before .before .loop .inv .2)) (c .before .before .before .before .before .before .before .before .loop .inv .5)
     (c .before .before .before .before .before .advance .last .1 .0) (c .before .before .before .before .before .advance .result .tally) (sym (c .before .before .before .before .before .advance .ensures .0) ∙ c .enum-told .given .1) (c .before .before .before .before .before .advance .ensures .1 .0) (c .before .before .before .before .before .advance .ensures .1 .1) in
     (omega (arith, c .before .before .before .before .before .before .before .loop-test .taken), c .before .before .before .before .before .advance .kept .1 .0 ∙ c .before .before .before .before .before .before .before .before .loop .inv .1, c .before .before .before .before .before .before .before .before .loop .inv .2, ap (λ t. t .bisections) (next .0) ∙ ap (λ n. n + 1) (c .before .before .before .before .before .before .before .before .loop .inv .3), ap (λ t. t .evaluations) (next .0) ∙ omega (arith, c .before .before .before .before .before .before .before .before .loop .inv .4), next .1)
@@ -122,7 +122,7 @@ same-length-3 : tie.Need-same-length-3 Inv-loop μ-loop
 same-length-3 c = c .before .before .before .loop .inv .1 ∙ c .before .before .before .before .before .before .before .before .put .kept .0
 
 returns-4 : tie.Need-returns-4 Inv-loop μ-loop
-returns-4 c =     let f = integrandOf (c .before .before .before .before .before .before .before .before .before .before .before .before .before .before .before .args .weights .now) in
+returns-4 c = let f = integrandOf (c .before .before .before .before .before .before .before .before .before .before .before .before .before .before .before .args .weights .now) in
     let all : c .before .before .before .loop .k ≡ 2000 = omega (arith, c .before .before .before .loop .inv .0, c .before .before .loop-test .left) in
     let end = rw all at (c .before .before .before .loop .inv .5) in
     (ap Sum (c .total2 .ensures) ∙ sym (ap quadratureOf (end .0)), held-over f (c .before .before .before .before .before .before .before .before .before .before .before .before .before .before .before .args .lo) (c .before .before .before .before .before .before .before .before .before .before .before .before .before .before .before .args .hi) (c .before .before .before .before .before .before .before .before .before .before .before .before .gk15 .result) (c .before .before .before .before .before .before .before .before .before .before .before .before .before .before .before .args .parts .now) (c .before .before .before .before .before .before .before .before .put .last .0) (c .before .before .before .loop .parts) 2001 (c .before .before .before .loop .tally) Open (omega arith) (omega arith) (c .before .before .before .before .before .before .before .before .put .ensures) end)

@@ -51,7 +51,7 @@ loop-less c = search needs
 
 loop-again : tie.Need-loop-again Inv-loop μ-loop
 unfolding turns
-loop-again c =     ⊎-elim
+loop-again c = ⊎-elim
     (λ w. (omega arith, search needs, omega arith, w .1 ∙ sym (rw (add-one (c .before .before .before .before .before .loop .i), ← c .before .before .before .before .before .loop .inv .3, ← c .before .comes-before .ensures, not-true (c .before .comes-before .result) (w .0 .taken)))))
     (λ w. (omega arith, search needs, omega arith, w .1 ∙ sym (rw (add-one (c .before .before .before .before .before .loop .i), ← c .before .before .before .before .before .loop .inv .3, ← c .before .comes-before .ensures, not-false (c .before .comes-before .result) (w .0 .left)))))
     (c .if1 .came)

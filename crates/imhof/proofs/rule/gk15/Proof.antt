@@ -85,7 +85,7 @@ loop-less c = search needs
 
 loop-again : tie.Need-loop-again Inv-loop μ-loop
 unfolding turns
-loop-again c =     let i = c .before .before .before .before .loop .i in
+loop-again c = let i = c .before .before .before .before .loop .i in
     ⊎-elim
     (λ w.
     let odd : i % 2 ≡ 1 = w .0 .taken in
@@ -103,7 +103,7 @@ abs-requires c κs = search needs
 
 returns : tie.Need-returns Inv-loop μ-loop
 unfolding gk15Of
-returns c =     let all : c .before .before .loop .i ≡ 7 = omega arith in
+returns c = let all : c .before .before .loop .i ≡ 7 = omega arith in
     rw (c .abs .ensures, c .before .before .loop .inv .1, c .before .before .loop .inv .2, all)
 
 pub gk15-spec : {M : Type 1} → statement M

@@ -47,7 +47,7 @@ loop-less c = search needs
 
 loop-again : tie.Need-loop-again Inv-loop μ-loop
 unfolding ne
-loop-again c =     let e = c .before .before .before .before .args .eigenvalues .now in
+loop-again c = let e = c .before .before .before .before .args .eigenvalues .now in
     let g = c .before .before .before .loop .inv .2 in
     ⊎-elim
     (λ w. (omega arith, search needs, rw (w .1, w .2) (gathered-weight e (c .before .before .before .before .args .d) (c .before .before .before .before .args .weights .now) (c .before .before .before .loop .weights) (c .before .before .before .loop .m) (c .before .before .before .loop .t) (omega arith) (omega arith) (not-true _ (w .0 .taken)) g)))
@@ -58,7 +58,7 @@ same-length : tie.Need-same-length Inv-loop μ-loop
 same-length c = search needs
 
 returns : tie.Need-returns Inv-loop μ-loop
-returns c =     let h : c .before .loop .t ≡ length (c .before .before .args .eigenvalues .now) = omega arith in
+returns c = let h : c .before .loop .t ≡ length (c .before .before .args .eigenvalues .now) = omega arith in
     gathered-all (c .before .before .args .eigenvalues .now) (c .before .before .args .d) (c .before .before .args .weights .now) (c .before .loop .weights) (c .before .loop .m) (omega arith) (rw h at (c .before .loop .inv .2))
 
 pub shift-spec : {M : Type 1} → statement M
