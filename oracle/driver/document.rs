@@ -1,0 +1,58 @@
+//! What document 01 asks of the port, read from the Rust's answer and from what its steps held: the
+//! Rust's refusals with the added ones (2, 9, 12, 13, 14) in document 01's order. It shares nothing
+//! with the port's own code.
+use crate::answer::Line;
+use crate::sheet_file::Sheet;
+use counted::record::Record;
+
+const MOST_ROWS: usize = 256;
+const MOST_COLUMNS: usize = 8;
+
+fn finite(numbers: &[f64]) -> bool {
+    numbers.iter().all(|x| x.is_finite())
+}
+
+fn finite_pair(pair: Option<(f64, f64)>) -> bool {
+    pair.is_none_or(|(a, b)| a.is_finite() && b.is_finite())
+}
+
+/// The first refusal of document 01, number and place, for a caller that lends matrix room for
+/// `room_rows` rows and full part room.
+fn refusal(sheet: &Sheet, rust: &Line, record: &Record, room_rows: usize) -> Option<(u32, usize)> {
+    let (rows, columns) = (sheet.rows(), sheet.columns.len());
+    let rust_says = |numbers: &[u32]| numbers.contains(&rust.refusal).then_some((rust.refusal, rust.place));
+    let when = |test: bool, number, place| test.then_some((number, place));
+
+    rust_says(&[1])
+        .or(when(rows > MOST_ROWS, 2, 0))
+        .or(when(columns > MOST_COLUMNS, 2, 1))
+        .or(rust_says(&[3, 4, 5, 6, 7, 8]))
+        .or(when(!finite_pair(record.sums), 9, 0))
+        .or(rust_says(&[10, 11]))
+        .or(when(!finite(&record.inverse), 13, 1))
+        .or(when(sheet.is_exact() && rows > room_rows, 12, 1))
+        .or(when(!finite(&record.product), 13, 2))
+        .or(when(!finite(&record.delivered), 13, 3))
+        .or(when(!finite_pair(record.range) || record.estimate_not_finite, 13, 4))
+        .or(when(!finite_pair(record.law), 13, 5))
+        .or(when(record.law.is_some_and(|(_, variance)| variance <= 0.0), 14, 0))
+}
+
+pub fn line(sheet: &Sheet, rust: Line, record: &Record, room_rows: usize) -> Line {
+    match refusal(sheet, &rust, record, room_rows) {
+        Some((number, place)) => Line::refused(number, place),
+        None => rust,
+    }
+}
+
+/// Whether document 01 bounds the distance of p between the port and the shipped Rust: the call is
+/// settled, n - k >= 2, every pivot exceeds 1e-6 of its column's scale, and no eigenvalue that was
+/// worked out lies within 1e-6 of the statistic or between 1e-11 and 1e-9.
+pub fn is_comparable(sheet: &Sheet, line: &Line, record: &Record) -> bool {
+    let clear_of = |&v: &f64| (v - line.statistic).abs() > 1e-6 && !(1e-11..=1e-9).contains(&v);
+    line.refusal == 0
+        && line.settled
+        && sheet.rows() >= sheet.columns.len() + 2
+        && record.pivots.iter().all(|&(pivot, scale)| pivot > 1e-6 * scale.max(f64::MIN_POSITIVE))
+        && record.delivered.iter().all(clear_of)
+}
