@@ -178,7 +178,10 @@ static void tails_at(double mean, double variance, double x) {
     exact_tail(truth, mean, variance, x, 1);
     mpfr_sub_d(distance, truth, upper, MPFR_RNDN);
     upper_error = fmax(upper_error, fabs(mpfr_get_d(distance, MPFR_RNDA)));
-    sum_error = fmax(sum_error, fabs(lower + upper - 1));
+    mpfr_set_d(distance, lower, MPFR_RNDN);
+    mpfr_add_d(distance, distance, upper, MPFR_RNDN);
+    mpfr_sub_ui(distance, distance, 1, MPFR_RNDN);
+    sum_error = fmax(sum_error, fabs(mpfr_get_d(distance, MPFR_RNDA)));
     tail_points++;
     if (!(lower >= 0 && lower <= 1 && upper >= 0 && upper <= 1)) {
         fprintf(stderr, "measure: a tail at mean %.17g, variance %.17g, x %.17g is not in [0, 1]\n", mean, variance, x);
