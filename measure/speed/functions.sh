@@ -20,7 +20,7 @@ sed -n 's/^\([a-z_]*\):.*/\1/p' $kit/crates.txt | while read -r crate; do
     cp -R "crates/$crate" "$kit/crates/$crate"
 done
 echo 'counted: elementary' >>$kit/crates.txt
-cp measure/speed/counted.rt $kit/crates/counted/src/lib.rt
+cp measure/speed/counted.rt.in $kit/crates/counted/src/lib.rt
 (cd $kit && rt staticlib counted) >$speed/kit.log 2>&1 || { tail -n 5 $speed/kit.log >&2; echo "functions.sh: the kit refused ($speed/kit.log)" >&2; exit 1; }
 $speed/rustc --edition 2021 -O -L $speed/port --extern elementary -L $kit/target/staticlib -o $speed/functions measure/speed/functions.rs
 
