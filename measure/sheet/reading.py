@@ -1,11 +1,21 @@
 """Sheet files read plainly from document 01, apart from the port and from the oracle, and the text that try_sheet prints for them."""
 import os
 import struct
+import sys
 
 HERE = os.path.dirname(os.path.abspath(__file__))
 ROOT = os.path.dirname(os.path.dirname(HERE))
 LABEL_BYTES = 24
 ONE_NAN = 0x7ff8000000000000
+ORACLE = os.path.join(ROOT, "oracle")
+
+
+def use_oracle():
+    """Lets the oracle's tools be imported."""
+    tools = os.path.join(ORACLE, "tools")
+    if not os.path.isfile(os.path.join(tools, "sheetfile.py")):
+        sys.exit("measure/sheet: no oracle/tools/sheetfile.py, which packs sheet files")
+    sys.path.insert(0, tools)
 
 
 class Refused(Exception):
