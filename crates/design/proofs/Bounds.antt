@@ -55,7 +55,7 @@ number (inf s) h = refl
 number (fin s m e) h = refl
 
 -- ---- twice a number from 0 to 1/2
-no-size : (m : ℕ) (e : ℤ) → le plusZero (fin true m e) ≡ true → m * up e ≡ 0
+pub no-size : (m : ℕ) (e : ℤ) → le plusZero (fin true m e) ≡ true → m * up e ≡ 0
 unfolding le lt eq ofBits
 no-size m e h = go (eqb (0 * 1 * down e) (m * up e * 1)) (eqb (0 * 1 * down e) 0) refl h
   where
@@ -63,7 +63,7 @@ no-size m e h = go (eqb (0 * 1 * down e) (m * up e * 1)) (eqb (0 * 1 * down e) 0
     go true b p q = omega (arith, eqb-true (0 * 1 * down e) (m * up e * 1) p, zero-mul (down e))
     go false b p q = absurd (true≢false (sym q))
 
-at-most : (m : ℕ) (e : ℤ) → le (fin false m e) half ≡ true → 1 * 2 ^ 1 * (m * up e) ≤ 1 * down e
+pub at-most : (m : ℕ) (e : ℤ) → le (fin false m e) half ≡ true → 1 * 2 ^ 1 * (m * up e) ≤ 1 * down e
 unfolding le lt eq ofBits
 at-most m e h = go (ltb (m * up e * 2) (1 * 1 * down e)) (eqb (m * up e * 2) (1 * 1 * down e)) refl refl h
   where
@@ -80,7 +80,7 @@ none n u c C h = go (n * u) h
     go zero h = refl
     go (suc p) h = absurd (lt-irrefl 0 (subst (λ (z : ℕ). 0 < z) h (mul-pos (zero-lt-suc p) C)))
 
-zero-from : (t : Bool) (m : ℕ) (e : ℤ) → m * up e ≡ 0 → le plusZero (fin t m e) ≡ true
+pub zero-from : (t : Bool) (m : ℕ) (e : ℤ) → m * up e ≡ 0 → le plusZero (fin t m e) ≡ true
 unfolding le lt eq ofBits
 zero-from t m e h = go t (0 * 1 * down e) (m * up e * 1) (omega (arith, zero-mul (down e))) (omega arith)
   where
@@ -107,7 +107,7 @@ zero-within (fin t m e) s c C v =
 twice-zero : (n c : ℕ) → 0 < c → n ≡ 0 → Within plusZero one (round binary64 true n c)
 twice-zero n c C h = rw h (zero-within (round binary64 true 0 c) true c C (round-exact binary64 true 0 c 0 0 C (lit< tt) (lit< tt) (sym (zero-mul c))))
 
-twice-within : (u : Float) → Within plusZero half u → Within plusZero one (two ⊗ u)
+pub twice-within : (u : Float) → Within plusZero half u → Within plusZero one (two ⊗ u)
 unfolding mul ofBits
 twice-within nan w = absurd (true≢false (unfold isNan in w .number))
 twice-within (inf true) w = absurd (true≢false (sym (unfold le lt eq ofBits in w .from)))

@@ -1,0 +1,5 @@
+pub mod Order
+pub mod Unit
+pub mod Accepted
+pub mod Worked
+pub mod One
