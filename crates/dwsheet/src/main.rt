@@ -1,9 +1,8 @@
 // The sheet program: a sheet file on standard input, one line a sheet on standard output; or the one line of a file refusal. The file
 // is read whole, up to one byte past the largest, before anything is printed.
-use design::Alternative;
-use dwtest::Choice;
-use dwtest::Outcome;
-use floats::bits::bits_of;
+use fields::alternative_of;
+use fields::choice_of;
+use fields::fields_of;
 use libc::STDIN_FILENO;
 use libc::STDOUT_FILENO;
 use sheet::file::Entry;
@@ -16,59 +15,6 @@ ghost use Prim.Native.Nat.{_*_, _≤_};
 ghost use lib.ListN.{length};
 ghost use Rattle.sheet.specs.Contents.{bodyEnd};
 ghost use Rattle.sheet.specs.Tiling.{Tiled};
-ghost use Rattle.dwsheet.specs.Line.{alternativeOf, choiceOf, markOf, fieldsOf};
-
-fn alternative_of(code: u8) -> Alternative
-    ensures { λ r. ⌜ r ≡ alternativeOf code ⌝ }
-{
-    if code == 0 {
-        return Alternative::Greater;
-    }
-    if code == 1 {
-        return Alternative::Less;
-    }
-    Alternative::TwoSided
-}
-
-fn choice_of(code: u8) -> Choice
-    ensures { λ r. ⌜ r ≡ choiceOf code ⌝ }
-{
-    if code == 0 {
-        return Choice::Default;
-    }
-    if code == 1 {
-        return Choice::Exact;
-    }
-    Choice::Normal
-}
-
-fn mark(b: bool) -> u64
-    ensures { λ r. ⌜ r ≡ markOf b ⌝ }
-{
-    if b { 1 } else { 0 }
-}
-
-// The fields of sheet `i`'s line.
-fn fields_of(i: usize, o: Outcome) -> Fields
-    ensures { λ r. ⌜ r ≡ fieldsOf i o ⌝ }
-{
-    let why = o.refusal;
-    let work = o.work;
-    Fields {
-        index: i as u64,
-        refusal: why.number as u64,
-        place: why.place as u64,
-        statistic_bits: bits_of(o.statistic),
-        p_bits: bits_of(o.p),
-        path: o.path as u64,
-        fallback: mark(o.fallback),
-        kept: o.kept as u64,
-        sweeps: work.sweeps as u64,
-        bisections: work.bisections as u64,
-        evaluations: work.evaluations as u64,
-        settled: mark(o.settled),
-    }
-}
 
 fn print_line(fields: Fields) {
     let mut out = [0u8; 244];

@@ -1,6 +1,8 @@
--- What the sheet program prints of a result, field by field, and what an entry's two codes mean (document 01, "The sheet program"). Definitions only. Assumes nothing.
+-- What is handed out of a result, field by field, and what the two codes of a call mean (document 01, "The sheet program"): the sheet program prints
+-- the fields as a line, the exported function writes them as words. Definitions only. Assumes nothing.
 use Prim.Native.Nat.{ℕ}
 use mathlib.Core.Bool.{Bool, cond}
+use mathlib.Core.List.{List, [], _∷_}
 use lib.Dec.{eqb}
 use lib.Ieee.{binary64, toBits}
 use Rattle.design.specs.declared.Alternative.{Alternative}
@@ -26,3 +28,19 @@ markOf b = cond b 1 0
 abbrev pub fieldsOf : ℕ → Outcome → Fields
 fieldsOf i o =
     record { index = i; refusal = o .refusal .number; place = o .refusal .place; «statistic_bits» = toBits binary64 (o .statistic); «p_bits» = toBits binary64 (o .p); path = o .path; fallback = markOf (o .fallback); kept = o .kept; sweeps = o .work .sweeps; bisections = o .work .bisections; evaluations = o .work .evaluations; settled = markOf (o .settled) }
+
+-- the fields but for the index, one word each, in the line's order
+abbrev pub wordsOf : Fields → List ℕ
+wordsOf f =
+    f .refusal
+    ∷ f .place
+    ∷ f .«statistic_bits»
+    ∷ f .«p_bits»
+    ∷ f .path
+    ∷ f .fallback
+    ∷ f .kept
+    ∷ f .sweeps
+    ∷ f .bisections
+    ∷ f .evaluations
+    ∷ f .settled
+    ∷ []

@@ -1,6 +1,6 @@
 use borrow.Author.Needs.{needs}
-use Rattle.dwsheet.proofs.fields_of.Statement.{statement}
-use Rattle.dwsheet.proofs.fields_of.Tie as tie
+use Rattle.fields.proofs.fields_of.Statement.{statement}
+use Rattle.fields.proofs.fields_of.Tie as tie
 
 returns : tie.Need-returns
 returns c = rw (c .before .before .before .bits-of .ensures, c .before .before .bits-of2 .ensures, c .before .mark .ensures, c .mark2 .ensures)
