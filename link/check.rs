@@ -1,0 +1,104 @@
+//! Reads sheet files, asks the library each sheet, and compares the words with the sheet program's lines:
+//! `check FILE.sheet FILE.txt ..`. Then a result of a wrong length and wrong codes. Prints each check that fails, then `N passed, M failed`.
+use std::{env, fs, process};
+
+const WORDS: usize = 11;
+
+extern "C" {
+    fn dwexport_test(
+        residuals: *const f64, residuals_len: usize,
+        columns: *const f64, columns_len: usize,
+        k: usize, alternative: u32, choice: u32,
+        matrix: *mut f64, matrix_len: usize,
+        parts: *mut f64, parts_len: usize,
+        result: *mut u64, result_len: usize,
+    ) -> u32;
+}
+
+/// The return code and what `result` holds. Slices are what the library asks for: as many numbers as their lengths say, and no overlap.
+fn test(residuals: &[f64], columns: &[f64], k: usize, alternative: u32, choice: u32, matrix: &mut [f64], parts: &mut [f64], result: &mut [u64]) -> u32 {
+    unsafe {
+        dwexport_test(
+            residuals.as_ptr(), residuals.len(),
+            columns.as_ptr(), columns.len(),
+            k, alternative, choice,
+            matrix.as_mut_ptr(), matrix.len(),
+            parts.as_mut_ptr(), parts.len(),
+            result.as_mut_ptr(), result.len(),
+        )
+    }
+}
+
+fn number(file: &[u8], at: usize, bytes: usize) -> u64 {
+    file[at..at + bytes].iter().rev().fold(0, |n, b| n << 8 | u64::from(*b))
+}
+
+fn numbers(file: &[u8], at: usize, count: usize) -> Vec<f64> {
+    (0..count).map(|t| f64::from_bits(number(file, at + 8 * t, 8))).collect()
+}
+
+/// The line of sheet `i`, as the sheet program prints it; it lends matrix room for 64 rows.
+fn line(file: &[u8], i: usize) -> String {
+    let at = 4 + 16 * i;
+    let (offset, n, k) = (number(file, at, 4) as usize, number(file, at + 4, 2) as usize, number(file, at + 6, 2) as usize);
+    let (alternative, choice) = (u32::from(file[at + 8]), u32::from(file[at + 9]));
+    let residuals = numbers(file, offset, n);
+    let columns = numbers(file, offset + 8 * n, n * k);
+    let (mut matrix, mut parts, mut w) = (vec![1.0; 2 * 64 * 64], vec![1.0; 8004], [1; WORDS]);
+    let code = test(&residuals, &columns, k, alternative, choice, &mut matrix, &mut parts, &mut w);
+    if code != 0 {
+        return format!("{} is not answered: {}", i, code);
+    }
+    format!("{} {} {} {:016x} {:016x} {} {} {} {} {} {} {}", i, w[0], w[1], w[2], w[3], w[4], w[5], w[6], w[7], w[8], w[9], w[10])
+}
+
+struct Tally {
+    passed: usize,
+    failed: usize,
+}
+
+impl Tally {
+    fn check(&mut self, name: &str, found: &str, wanted: &str) {
+        if found == wanted {
+            self.passed += 1;
+        } else {
+            self.failed += 1;
+            println!("FAILED {}: {} where {} was due", name, found, wanted);
+        }
+    }
+}
+
+fn read(path: &str) -> Vec<u8> {
+    fs::read(path).unwrap_or_else(|e| {
+        eprintln!("check: {}: {}", path, e);
+        process::exit(2)
+    })
+}
+
+fn main() {
+    let given: Vec<String> = env::args().skip(1).collect();
+    if given.is_empty() || given.len() % 2 != 0 {
+        eprintln!("usage: check FILE.sheet FILE.txt ..");
+        process::exit(2);
+    }
+    let mut tally = Tally { passed: 0, failed: 0 };
+    for pair in given.chunks(2) {
+        let file = read(&pair[0]);
+        let text = String::from_utf8_lossy(&read(&pair[1])).into_owned();
+        let lines: Vec<&str> = text.lines().collect();
+        let count = number(&file, 0, 4) as usize;
+        tally.check(&pair[0], &count.to_string(), &lines.len().to_string());
+        for (i, wanted) in lines.iter().enumerate().take(count) {
+            tally.check(&pair[0], &line(&file, i), wanted);
+        }
+    }
+    for (name, words, alternative, choice, code) in [("10 words", 10, 0, 0, "1"), ("12 words", 12, 0, 0, "1"), ("alternative 3", 11, 3, 0, "2"), ("choice 3", 11, 0, 3, "3"), ("sound", 11, 0, 0, "0")] {
+        let (mut matrix, mut parts, mut result) = (vec![1.0; 18], vec![1.0; 8004], vec![7; words]);
+        let found = test(&[1.0, -1.0, 0.0], &[1.0; 3], 1, alternative, choice, &mut matrix, &mut parts, &mut result);
+        tally.check(name, &found.to_string(), code);
+        tally.check(name, &result.iter().all(|w| *w == 7).to_string(), &(code != "0").to_string());
+        tally.check(name, &matrix.iter().chain(&parts).all(|x| *x == 1.0).to_string(), &(code != "0").to_string());
+    }
+    println!("{} passed, {} failed", tally.passed, tally.failed);
+    process::exit(i32::from(tally.failed != 0));
+}
