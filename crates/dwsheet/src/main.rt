@@ -1,8 +1,9 @@
-// The sheet program: a sheet file on standard input, one line a sheet on standard output; or the one line of a file refusal. The file
-// is read whole, up to one byte past the largest, before anything is printed.
+// The sheet program: a sheet file on standard input, one line a sheet on standard output; or the one line of a file refusal. The file is read whole, up to
+// one byte past the largest, before anything is printed. Where a read fails there is a message on standard error, and nothing is printed.
 use fields::alternative_of;
 use fields::choice_of;
 use fields::fields_of;
+use libc::STDERR_FILENO;
 use libc::STDIN_FILENO;
 use libc::STDOUT_FILENO;
 use sheet::file::Entry;
@@ -13,6 +14,7 @@ use sheet::lines::Fields;
 ghost use mathlib.Core.Path.{_≡_};
 ghost use Prim.Native.Nat.{_*_, _≤_};
 ghost use lib.ListN.{length};
+ghost use Rattle.io.specs.Counts.{Counts};
 ghost use Rattle.sheet.specs.Contents.{bodyEnd};
 ghost use Rattle.sheet.specs.Tiling.{Tiled};
 
@@ -74,8 +76,40 @@ fn room() -> [u8; 65_537]
     [0; 65_537]
 }
 
+// What was read: the first `size` bytes of the room, and whether a read failed before the input's end.
+struct Input {
+    size: usize,
+    failed: bool,
+}
+
+// Reads until the room is full, the input ends or a read fails.
+fn read_input(file: &mut [u8]) -> Input
+    ensures { λ r. ⌜ Counts (r .size) (now (file .exit)) ⌝ }
+{
+    let mut size = 0;
+    let mut failed = false;
+    while size < file.len() {
+        let got = libc::read(STDIN_FILENO, &mut file[size..]);
+        if got < 0 {
+            failed = true;
+            break;
+        }
+        let more = io::count(got, &file[size..]);
+        if more == 0 {
+            break;
+        }
+        size = size + more;
+    }
+    Input { size, failed }
+}
+
 fn test_input(file: &mut [u8]) {
-    let size = io::read_full(STDIN_FILENO, file);
+    let input = read_input(file);
+    if input.failed {
+        io::write_all(STDERR_FILENO, b"dwsheet: standard input can't be read\n");
+        return;
+    }
+    let size = input.size;
     test_file(&file[..size]);
 }
 
