@@ -1,0 +1,73 @@
+// The line of a call.
+use design::Alternative;
+use dwtest::Outcome;
+use floats::bits::bits_of;
+use libc::STDOUT_FILENO;
+use sheet::lines::Fields;
+
+fn mark(b: bool) -> u64 {
+    if b { 1 } else { 0 }
+}
+
+fn code_of(alternative: Alternative) -> u64 {
+    match alternative {
+        Alternative::Greater => 0,
+        Alternative::Less => 1,
+        Alternative::TwoSided => 2,
+    }
+}
+
+fn print_word(n: u64) {
+    io::write_all(STDOUT_FILENO, b" ");
+    io::print_decimal(STDOUT_FILENO, n);
+}
+
+fn print_pattern(x: f64) {
+    io::write_all(STDOUT_FILENO, b" ");
+    io::print_hex(STDOUT_FILENO, bits_of(x), 16);
+}
+
+// The sheet program's line, without its newline.
+fn print_fields(fields: Fields) {
+    let mut out = [0u8; 244];
+    let n = sheet::lines::write_line(fields, &mut out);
+    if n > 0 {
+        let end = n - 1;
+        io::write_all(STDOUT_FILENO, &out[..end]);
+    }
+}
+
+pub fn print_outcome(i: usize, o: Outcome) {
+    let why = o.refusal;
+    let work = o.work;
+    print_fields(Fields {
+        index: i as u64,
+        refusal: why.number as u64,
+        place: why.place as u64,
+        statistic_bits: bits_of(o.statistic),
+        p_bits: bits_of(o.p),
+        path: o.path as u64,
+        fallback: mark(o.fallback),
+        kept: o.kept as u64,
+        sweeps: work.sweeps as u64,
+        bisections: work.bisections as u64,
+        evaluations: work.evaluations as u64,
+        settled: mark(o.settled),
+    });
+    let law = o.law;
+    let alternative = o.alternative;
+    print_word(o.n as u64);
+    print_word(code_of(alternative));
+    print_pattern(law.mean);
+    print_pattern(law.variance);
+}
+
+pub fn print_rooms(matrix: u64, parts: u64) {
+    print_word(matrix);
+    print_word(parts);
+    io::write_all(STDOUT_FILENO, b"\n");
+}
+
+pub fn print_cut() {
+    io::write_all(STDOUT_FILENO, b"the input is cut short\n");
+}
