@@ -16,21 +16,42 @@ fn finite_pair(pair: Option<(f64, f64)>) -> bool {
     pair.is_none_or(|(a, b)| a.is_finite() && b.is_finite())
 }
 
-/// The first refusal of document 01, number and place, for a caller that lends matrix room for
-/// `room_rows` rows and full part room.
-fn refusal(sheet: &Sheet, rust: &Line, record: &Record, room_rows: usize) -> Option<(u32, usize)> {
+/// The lengths of the two rooms that a caller lends.
+#[derive(Clone, Copy)]
+pub struct Rooms {
+    pub matrix: usize,
+    pub parts: usize,
+}
+
+/// Four runs of 2,001 numbers: the parts of 2,000 bisections.
+pub const PART_ROOM: usize = 8004;
+
+impl Rooms {
+    /// Matrix room for so many rows, and full part room.
+    pub fn of_rows(rows: usize) -> Rooms {
+        Rooms { matrix: 2 * rows * rows, parts: PART_ROOM }
+    }
+}
+
+/// The refusals that turn on sizes alone: number and place.
+pub fn refusal_of_sizes(rows: usize, columns: usize) -> Option<(u32, usize)> {
+    let when = |test: bool, number, place| test.then_some((number, place));
+    when(columns == 0, 1, 0).or(when(rows > MOST_ROWS, 2, 0)).or(when(columns > MOST_COLUMNS, 2, 1))
+}
+
+/// The first refusal of document 01, number and place, for a caller that lends these rooms.
+fn refusal(sheet: &Sheet, rust: &Line, record: &Record, rooms: Rooms) -> Option<(u32, usize)> {
     let (rows, columns) = (sheet.rows(), sheet.columns.len());
     let rust_says = |numbers: &[u32]| numbers.contains(&rust.refusal).then_some((rust.refusal, rust.place));
     let when = |test: bool, number, place| test.then_some((number, place));
 
-    rust_says(&[1])
-        .or(when(rows > MOST_ROWS, 2, 0))
-        .or(when(columns > MOST_COLUMNS, 2, 1))
+    refusal_of_sizes(rows, columns)
         .or(rust_says(&[3, 4, 5, 6, 7, 8]))
         .or(when(!finite_pair(record.sums), 9, 0))
         .or(rust_says(&[10, 11]))
         .or(when(!finite(&record.inverse), 13, 1))
-        .or(when(sheet.is_exact() && rows > room_rows, 12, 1))
+        .or(when(sheet.is_exact() && rooms.matrix < 2 * rows * rows, 12, 1))
+        .or(when(sheet.is_exact() && rooms.parts < PART_ROOM, 12, 2))
         .or(when(!finite(&record.product), 13, 2))
         .or(when(!finite(&record.delivered), 13, 3))
         .or(when(!finite_pair(record.range) || record.estimate_not_finite, 13, 4))
@@ -38,11 +59,16 @@ fn refusal(sheet: &Sheet, rust: &Line, record: &Record, room_rows: usize) -> Opt
         .or(when(record.law.is_some_and(|(_, variance)| variance <= 0.0), 14, 0))
 }
 
-pub fn line(sheet: &Sheet, rust: Line, record: &Record, room_rows: usize) -> Line {
-    match refusal(sheet, &rust, record, room_rows) {
+pub fn line(sheet: &Sheet, rust: Line, record: &Record, rooms: Rooms) -> Line {
+    match refusal(sheet, &rust, record, rooms) {
         Some((number, place)) => Line::refused(number, place),
         None => rust,
     }
+}
+
+/// Whether a call sets the first numbers of both rooms to +0: exact, three rows at least, and past refusal 12.
+pub fn clears_rooms(sheet: &Sheet, line: &Line) -> bool {
+    sheet.is_exact() && matches!((line.refusal, line.place), (0, _) | (13, 2..) | (14, _))
 }
 
 /// Whether document 01 bounds the distance of p between the port and the shipped Rust: the call is

@@ -3,9 +3,9 @@ use crate::answer::{bits, Line};
 use counted::record::Record;
 use std::io::{self, Write};
 
-pub fn print_line(out: &mut impl Write, index: usize, line: &Line) -> io::Result<()> {
-    writeln!(
-        out,
+/// The sheet program's line, without its newline.
+pub fn line(index: usize, line: &Line) -> String {
+    format!(
         "{} {} {} {:016x} {:016x} {} {} {} {} {} {} {}",
         index,
         line.refusal,
@@ -20,6 +20,10 @@ pub fn print_line(out: &mut impl Write, index: usize, line: &Line) -> io::Result
         line.evaluations,
         u8::from(line.settled),
     )
+}
+
+pub fn print_line(out: &mut impl Write, index: usize, entry: &Line) -> io::Result<()> {
+    writeln!(out, "{}", line(index, entry))
 }
 
 /// `NAME COUNT BITS ..`

@@ -4,12 +4,15 @@ mod calls;
 mod document;
 mod lines;
 mod sheet_file;
+mod tests;
 
+use document::Rooms;
 use std::fs::File;
 use std::io::{self, BufReader, BufWriter, Read, Write};
 use std::process::ExitCode;
 
 const USAGE: &str = "usage: [--stream] [--document] [--room-rows N] [--comparable] [--eigenvalues] [--dump] [FILE]
+       --tests [--comparable] [FILE]
        --calls [FILE]
        --about";
 
@@ -26,6 +29,8 @@ struct Options {
     comparable: bool,
     eigenvalues: bool,
     dump: bool,
+    /// The input is calls of the test, as crates/try_dwtest takes them.
+    tests: bool,
     calls: bool,
     about: bool,
     file: Option<String>,
@@ -39,6 +44,7 @@ fn options(mut words: impl Iterator<Item = String>) -> Result<Options, String> {
         comparable: false,
         eigenvalues: false,
         dump: false,
+        tests: false,
         calls: false,
         about: false,
         file: None,
@@ -50,6 +56,7 @@ fn options(mut words: impl Iterator<Item = String>) -> Result<Options, String> {
             "--comparable" => options.comparable = true,
             "--eigenvalues" => options.eigenvalues = true,
             "--dump" => options.dump = true,
+            "--tests" => options.tests = true,
             "--calls" => options.calls = true,
             "--about" => options.about = true,
             "--room-rows" => {
@@ -61,9 +68,10 @@ fn options(mut words: impl Iterator<Item = String>) -> Result<Options, String> {
             _ => options.file = Some(word),
         }
     }
-    let about_sheets = options.stream || options.document || options.comparable || options.eigenvalues || options.dump;
-    if (options.calls || options.about) && about_sheets || options.calls && options.about {
-        return Err(format!("--calls and --about stand alone\n{USAGE}"));
+    let about_files = options.stream || options.document || options.eigenvalues || options.dump;
+    let alone = [options.tests, options.calls, options.about].into_iter().filter(|&flag| flag).count();
+    if alone > 1 || alone == 1 && (about_files || options.comparable && !options.tests) {
+        return Err(format!("--tests, --calls and --about stand alone\n{USAGE}"));
     }
     Ok(options)
 }
@@ -92,7 +100,7 @@ fn print_file(file: &[u8], options: &Options, out: &mut impl Write) -> Result<()
         }
         let comparable = document::is_comparable(sheet, &rust, &record);
         let line = match options.document {
-            true => document::line(sheet, rust, &record, options.room_rows),
+            true => document::line(sheet, rust, &record, Rooms::of_rows(options.room_rows)),
             false => rust,
         };
         lines::print_line(out, index, &line).map_err(failed)?;
@@ -109,7 +117,7 @@ fn print_file(file: &[u8], options: &Options, out: &mut impl Write) -> Result<()
 }
 
 /// Fills `bytes` from `input`, and says how many there were.
-fn fill(input: &mut impl Read, bytes: &mut [u8]) -> Result<usize, String> {
+pub fn fill(input: &mut impl Read, bytes: &mut [u8]) -> Result<usize, String> {
     let mut filled = 0;
     while filled < bytes.len() {
         match input.read(&mut bytes[filled..]) {
@@ -150,6 +158,8 @@ fn run(options: &Options) -> Result<(), String> {
         writeln!(out, "{}", functions::ABOUT).map_err(|e| e.to_string())?;
     } else if options.calls {
         calls::run(BufReader::new(open(options)?), &mut out)?;
+    } else if options.tests {
+        tests::run(BufReader::with_capacity(1 << 16, open(options)?), options.comparable, &mut out)?;
     } else if options.stream {
         print_stream(BufReader::with_capacity(1 << 16, open(options)?), options, &mut out)?;
     } else {
