@@ -4,6 +4,7 @@ mod calls;
 mod document;
 mod lines;
 mod sheet_file;
+mod spectra;
 mod tests;
 
 use document::Rooms;
@@ -13,6 +14,7 @@ use std::process::ExitCode;
 
 const USAGE: &str = "usage: [--stream] [--document] [--room-rows N] [--comparable] [--eigenvalues] [--dump] [FILE]
        --tests [--comparable] [FILE]
+       --spectra [FILE]
        --calls [FILE]
        --about";
 
@@ -31,6 +33,8 @@ struct Options {
     dump: bool,
     /// The input is calls of the test, as crates/try_dwtest takes them.
     tests: bool,
+    /// The input is designs, as crates/try_eigen takes them.
+    spectra: bool,
     calls: bool,
     about: bool,
     file: Option<String>,
@@ -45,6 +49,7 @@ fn options(mut words: impl Iterator<Item = String>) -> Result<Options, String> {
         eigenvalues: false,
         dump: false,
         tests: false,
+        spectra: false,
         calls: false,
         about: false,
         file: None,
@@ -57,6 +62,7 @@ fn options(mut words: impl Iterator<Item = String>) -> Result<Options, String> {
             "--eigenvalues" => options.eigenvalues = true,
             "--dump" => options.dump = true,
             "--tests" => options.tests = true,
+            "--spectra" => options.spectra = true,
             "--calls" => options.calls = true,
             "--about" => options.about = true,
             "--room-rows" => {
@@ -69,9 +75,9 @@ fn options(mut words: impl Iterator<Item = String>) -> Result<Options, String> {
         }
     }
     let about_files = options.stream || options.document || options.eigenvalues || options.dump;
-    let alone = [options.tests, options.calls, options.about].into_iter().filter(|&flag| flag).count();
+    let alone = [options.tests, options.spectra, options.calls, options.about].into_iter().filter(|&flag| flag).count();
     if alone > 1 || alone == 1 && (about_files || options.comparable && !options.tests) {
-        return Err(format!("--tests, --calls and --about stand alone\n{USAGE}"));
+        return Err(format!("--tests, --spectra, --calls and --about stand alone\n{USAGE}"));
     }
     Ok(options)
 }
@@ -130,6 +136,27 @@ pub fn fill(input: &mut impl Read, bytes: &mut [u8]) -> Result<usize, String> {
     Ok(filled)
 }
 
+/// So many numbers from `input`.
+pub fn numbers(input: &mut impl Read, count: usize) -> Result<Vec<f64>, String> {
+    let mut bytes = vec![0; 8 * count];
+    if fill(input, &mut bytes)? < bytes.len() {
+        return Err("its numbers are cut off".into());
+    }
+    Ok(bytes.chunks_exact(8).map(|b| f64::from_le_bytes(b.try_into().unwrap())).collect())
+}
+
+/// So many words from `input`, or None where it ends.
+pub fn words<const N: usize>(input: &mut impl Read) -> Result<Option<[u64; N]>, String> {
+    let mut bytes = vec![0; 8 * N];
+    match fill(input, &mut bytes)? {
+        0 => Ok(None),
+        filled if filled == bytes.len() => {
+            Ok(Some(std::array::from_fn(|at| u64::from_le_bytes(bytes[8 * at..8 * at + 8].try_into().unwrap()))))
+        }
+        _ => Err("its head is cut off".into()),
+    }
+}
+
 fn print_stream(mut input: impl Read, options: &Options, out: &mut impl Write) -> Result<(), String> {
     for index in 0u64.. {
         let mut length = [0; 4];
@@ -160,6 +187,8 @@ fn run(options: &Options) -> Result<(), String> {
         calls::run(BufReader::new(open(options)?), &mut out)?;
     } else if options.tests {
         tests::run(BufReader::with_capacity(1 << 16, open(options)?), options.comparable, &mut out)?;
+    } else if options.spectra {
+        spectra::run(BufReader::with_capacity(1 << 16, open(options)?), &mut out)?;
     } else if options.stream {
         print_stream(BufReader::with_capacity(1 << 16, open(options)?), options, &mut out)?;
     } else {

@@ -4,7 +4,7 @@
 //! on lengths are said here, since the Rust's own call can't be wrong in them.
 use crate::answer::{self, bits, Line};
 use crate::document::{self, Rooms};
-use crate::fill;
+use crate::{numbers, words};
 use crate::lines;
 use crate::sheet_file::{Alternative, Choice, Sheet};
 use counted::record::Record;
@@ -24,40 +24,28 @@ struct Head {
 
 /// The next call's head, or None where the input ends.
 fn head(input: &mut impl Read) -> Result<Option<Head>, String> {
-    let mut bytes = [0; 56];
-    match fill(input, &mut bytes)? {
-        0 => return Ok(None),
-        56 => {}
-        _ => return Err("its head is cut off".into()),
-    }
-    let word = |at: usize| u64::from_le_bytes(bytes[8 * at..8 * at + 8].try_into().unwrap());
-    if word(0) > MOST_NUMBERS || word(1) > MOST_NUMBERS {
-        return Err(format!("{} and {} numbers; is this a call?", word(0), word(1)));
+    let Some(word) = words::<7>(input)? else {
+        return Ok(None);
+    };
+    if word[0] > MOST_NUMBERS || word[1] > MOST_NUMBERS {
+        return Err(format!("{} and {} numbers; is this a call?", word[0], word[1]));
     }
     Ok(Some(Head {
-        residuals: word(0) as usize,
-        numbers: word(1) as usize,
-        k: word(2),
-        alternative: match word(3) {
+        residuals: word[0] as usize,
+        numbers: word[1] as usize,
+        k: word[2],
+        alternative: match word[3] {
             0 => Alternative::Greater,
             1 => Alternative::Less,
             _ => Alternative::TwoSided,
         },
-        choice: match word(4) {
+        choice: match word[4] {
             0 => Choice::Default,
             1 => Choice::Exact,
             _ => Choice::Normal,
         },
-        rooms: Rooms { matrix: word(5) as usize, parts: word(6) as usize },
+        rooms: Rooms { matrix: word[5] as usize, parts: word[6] as usize },
     }))
-}
-
-fn numbers(input: &mut impl Read, count: usize) -> Result<Vec<f64>, String> {
-    let mut bytes = vec![0; 8 * count];
-    if fill(input, &mut bytes)? < bytes.len() {
-        return Err("its numbers are cut off".into());
-    }
-    Ok(bytes.chunks_exact(8).map(|b| f64::from_le_bytes(b.try_into().unwrap())).collect())
 }
 
 /// The answer to a call, what it met on the way (None where the lengths refuse it), whether it clears the rooms
