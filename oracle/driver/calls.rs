@@ -1,11 +1,29 @@
 //! Single functions, asked by lines of text: `NAME BITS ..`, answered by the bits of what they give.
 use crate::answer::bits;
 use answers::timeseries::dwtest::{imhof_prob_below_zero, symmetric_eigenvalues};
+use counted::record;
 use std::io::{self, BufRead, Write};
 
 fn symmetric(numbers: &[f64]) -> Option<Vec<f64>> {
     let n = numbers.len().isqrt();
     (n * n == numbers.len() && n > 0).then(|| symmetric_eigenvalues(numbers.chunks(n).map(<[f64]>::to_vec).collect()))
+}
+
+/// Imhof's probability with what the counting copy notes of it: how it ended (0 no weight is left, 1 a number that document 01 asks to be
+/// finite is not, 2 a probability), the probability before it is clamped, bisections, evaluations, bisections at which the greatest error
+/// stood twice, the ends of the range, the integral, the sum of the parts' errors. Where no integral was needed the last four are 0.
+fn counted_imhof(weights: &[f64]) -> Vec<u64> {
+    record::take();
+    let probability = counted::timeseries::dwtest::imhof_prob_below_zero(weights);
+    let met = record::take();
+    assert_eq!(bits(probability), bits(imhof_prob_below_zero(weights)), "the counting copy gives another probability");
+    let (low, high) = met.range.unwrap_or((0.0, 0.0));
+    let finite = low.is_finite() && high.is_finite() && !met.estimate_not_finite;
+    let ended = if met.weights.is_empty() { 0 } else if finite { 2 } else { 1 };
+    let error = if met.parts.is_empty() { 0.0 } else { met.parts.iter().map(|p| p.3).sum() };
+    let mut words = vec![ended, bits(probability), met.bisections, met.evaluations, met.ties];
+    words.extend([low, high, met.integral.unwrap_or(0.0), error].map(bits));
+    words
 }
 
 /// What the function gives, or None where there is no such function of so many numbers.
@@ -31,11 +49,14 @@ fn number(word: &str) -> Option<f64> {
     (word.len() == 16).then(|| u64::from_str_radix(word, 16).ok()).flatten().map(f64::from_bits)
 }
 
-fn answer(line: &str) -> Option<Vec<f64>> {
+fn answer(line: &str) -> Option<Vec<u64>> {
     let mut words = line.split_ascii_whitespace();
     let name = words.next()?;
-    let numbers: Option<Vec<f64>> = words.map(number).collect();
-    call(name, &numbers?)
+    let numbers = words.map(number).collect::<Option<Vec<f64>>>()?;
+    if name == "imhof_counts" {
+        return Some(counted_imhof(&numbers));
+    }
+    Some(call(name, &numbers)?.into_iter().map(bits).collect())
 }
 
 /// Answers each line of `input`. The error says which line could not be.
@@ -46,7 +67,7 @@ pub fn run(input: impl BufRead, out: &mut impl Write) -> Result<(), String> {
         let Some(values) = answer(&line) else {
             return Err(format!("line {}: no such call: {}", index + 1, line));
         };
-        let words: Vec<String> = values.iter().map(|&x| format!("{:016x}", bits(x))).collect();
+        let words: Vec<String> = values.iter().map(|word| format!("{word:016x}")).collect();
         writeln!(out, "{}", words.join(" ")).map_err(failed)?;
     }
     Ok(())

@@ -41,6 +41,8 @@ pub struct Record {
     pub law: Option<(f64, f64)>,
     pub sweeps: u64,
     pub bisections: u64,
+    /// Bisections at which another part had the greatest error too.
+    pub ties: u64,
     pub evaluations: u64,
 }
 
@@ -120,6 +122,12 @@ pub fn estimate(estimate: (f64, f64)) -> (f64, f64) {
 
 pub fn bisection() {
     note(|r| r.bisections += 1);
+}
+
+/// The part that is to be split, by its place.
+pub fn worst(parts: &[Part], place: usize) {
+    let equals = parts.iter().filter(|p| p.3.to_bits() == parts[place].3.to_bits()).count();
+    note(|r| r.ties += (equals > 1) as u64);
 }
 
 pub fn parts(parts: &[Part]) {

@@ -55,6 +55,8 @@ COUNTED = [
              "    let integral = crate::record::integral(gauss_kronrod_adaptive(&g, s_lo, s_hi, 0.5 * IMHOF_TOL));"),
     (DWTEST, "    (k * h, ((k - gs) * h).abs())",
              "    crate::record::estimate((k * h, ((k - gs) * h).abs()))"),
+    (DWTEST, "        let (lo, hi, _, _) = parts.swap_remove(worst);",
+             "        crate::record::worst(&parts, worst); let (lo, hi, _, _) = parts.swap_remove(worst);"),
     (DWTEST, "        let mid = 0.5 * (lo + hi);",
              "        crate::record::bisection(); let mid = 0.5 * (lo + hi);"),
     (DWTEST, "    parts.iter().map(|p| p.2).sum()",
