@@ -1,5 +1,6 @@
 // The sheet program: a sheet file on standard input, one line a sheet on standard output; or the one line of a file refusal. The file is read whole, up to
-// one byte past the largest, before anything is printed. Where a read fails there is a message on standard error, and nothing is printed.
+// one byte past the largest, before anything is printed. Where a read fails there is a message on standard error, and nothing is printed;
+// where a write fails, a message, and no more lines.
 use fields::alternative_of;
 use fields::choice_of;
 use fields::fields_of;
@@ -18,20 +19,21 @@ ghost use Rattle.io.specs.Counts.{Counts};
 ghost use Rattle.sheet.specs.Contents.{bodyEnd};
 ghost use Rattle.sheet.specs.Tiling.{Tiled};
 
-fn print_line(fields: Fields) {
+// Each answers whether the whole line was written.
+fn print_line(fields: Fields) -> bool {
     let mut out = [0u8; 244];
     let n = sheet::lines::write_line(fields, &mut out);
-    io::write_all(STDOUT_FILENO, &out[..n]);
+    io::write_all(STDOUT_FILENO, &out[..n])
 }
 
-fn print_refusal(refusal: FileRefusal) {
+fn print_refusal(refusal: FileRefusal) -> bool {
     let mut out = [0u8; 244];
     let n = sheet::lines::write_file_refusal(refusal, &mut out);
-    io::write_all(STDOUT_FILENO, &out[..n]);
+    io::write_all(STDOUT_FILENO, &out[..n])
 }
 
 // Matrix room for 64 rows and full part room are lent: an exact sheet with more rows meets refusal 12.
-fn test_entry(file: &[u8], i: usize, e: Entry)
+fn test_entry(file: &[u8], i: usize, e: Entry) -> bool
     requires { ⌜ (bodyEnd e ≤ length (now file)) × (e .rows ≤ 8192) × (e .rows * e .columns ≤ 8192) ⌝ }
 {
     let mut residuals = [0.0f64; 8192];
@@ -49,20 +51,23 @@ fn test_entry(file: &[u8], i: usize, e: Entry)
         &mut matrix,
         &mut parts,
     );
-    print_line(fields_of(i, outcome));
+    print_line(fields_of(i, outcome))
 }
 
-fn test_entries(file: &[u8], count: usize)
+fn test_entries(file: &[u8], count: usize) -> bool
     requires { ⌜ Tiled (now file) count ⌝ }
 {
     for i in 0..count {
         if let Next::Sheet(e) = sheet::reader::read_entry(file, i) {
-            test_entry(file, i, e);
+            if !test_entry(file, i, e) {
+                return false;
+            }
         }
     }
+    true
 }
 
-fn test_file(file: &[u8]) {
+fn test_file(file: &[u8]) -> bool {
     match sheet::file::check_file(file) {
         FileCheck::Accepted(count) => test_entries(file, count),
         FileCheck::Refused(refusal) => print_refusal(refusal),
@@ -110,7 +115,12 @@ fn test_input(file: &mut [u8]) {
         return;
     }
     let size = input.size;
-    test_file(&file[..size]);
+    if !test_file(&file[..size]) {
+        io::write_all(
+            STDERR_FILENO,
+            b"dwsheet: standard output can't be written\n",
+        );
+    }
 }
 
 fn main() {
