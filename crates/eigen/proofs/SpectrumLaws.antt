@@ -14,7 +14,7 @@ use lib.Seq.{take-at, drop-at, drop-drop, take-append-le}
 use mathlib.Core.Bool.{Bool, true, false, cond}
 use Rattle.floats.proofs.TurnLaws.{turns-keep}
 use Rattle.floats.proofs.TableLaws.{length-table}
-use Rattle.projection.proofs.MatrixLaws.{length-symmetric}
+use Rattle.floats.proofs.MatrixLaws.{length-symmetric}
 use Rattle.floats.specs.Count.{noWork}
 use Rattle.floats.specs.Search.{firstBad}
 use Rattle.floats.specs.declared.tally.Tally.{Tally}

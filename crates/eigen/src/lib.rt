@@ -4,7 +4,7 @@ ghost use mathlib.Core.List.{_++_};
 ghost use Prim.Native.Nat.{_+_, _*_, _≤_, _<_};
 ghost use lib.ListN.{length, take, drop};
 ghost use Rattle.projection.specs.Projection.{residualMaker};
-ghost use Rattle.tridiagonal.specs.Matrix.{Symmetric};
+ghost use Rattle.floats.specs.Matrix.{Symmetric};
 ghost use Rattle.tridiagonal.specs.Reflection.{tridiagonalOf};
 ghost use Rattle.eigen.specs.Spectrum.{deliveredOf, deliveredNumbers, spectrumOf, keptNumbers, frontOf};
 

@@ -5,3 +5,6 @@ pub mod TurnLaws
 pub mod ListLaws
 pub mod TableLaws
 pub mod TotalOrder
+pub mod RowLaws
+pub mod MatrixLaws
+pub mod Commutes

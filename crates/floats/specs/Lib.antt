@@ -6,3 +6,4 @@ pub mod Bits
 pub mod Count
 pub mod Turns
 pub mod Tables
+pub mod Matrix

@@ -15,8 +15,9 @@ use borrow.Author.Tests.{le-leb, lt-leb}
 use Rattle.floats.specs.Words.{_⊕_, _⊗_, _‼_, minusZero}
 use Rattle.floats.specs.Sums.{sumOf}
 use Rattle.floats.specs.Tables.{table, square, part, withPart}
-use Rattle.projection.specs.Matrix.{entry, layered}
-use Rattle.projection.proofs.MatrixLaws.{rowsTo, rows-kernel, square-same, entry-square, length-square}
+use Rattle.floats.specs.Matrix.{entry}
+use Rattle.projection.specs.Layer.{layered}
+use Rattle.floats.proofs.MatrixLaws.{rowsTo, rows-kernel, square-same, entry-square, length-square}
 
 -- the turn of row i
 pub layer-row : (n i start end : ℕ) (a u w : List Float) → i < n → start ≡ i * n + 0 → end ≡ start + (i + 1)

@@ -1,5 +1,3 @@
-pub mod RowLaws
-pub mod MatrixLaws
 pub mod LayerLaws
 pub mod MirrorLaws
 pub mod ProjectionLaws

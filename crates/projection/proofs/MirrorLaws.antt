@@ -14,8 +14,8 @@ use lib.Ieee.{Float}
 use borrow.Author.Tests.{lt-ltb, le-ltb, eq-eqb, ne-eqb}
 use Rattle.floats.specs.Words.{_⊕_, _‼_, one}
 use Rattle.floats.specs.Tables.{square, symmetric}
-use Rattle.projection.specs.Matrix.{entry}
-use Rattle.projection.proofs.MatrixLaws.{lt-or-le, rowsTo, row-old, store-square, square-same, entry-square}
+use Rattle.floats.specs.Matrix.{entry}
+use Rattle.floats.proofs.MatrixLaws.{lt-or-le, rowsTo, row-old, store-square, square-same, entry-square}
 
 module _ (n : ℕ) (old : ℕ → ℕ → Float) where
   -- ---- 1 added along the diagonal

@@ -19,9 +19,10 @@ use Rattle.floats.specs.Tables.{table, square, symmetric, part}
 use Rattle.floats.proofs.ListLaws.{row-in, getD-part, sum-same}
 use Rattle.floats.proofs.TableLaws.{length-table, getD-table}
 use Rattle.design.specs.Difference.{differenceAt}
-use Rattle.projection.specs.Matrix.{entry, layered, Symmetric}
+use Rattle.floats.specs.Matrix.{entry, Symmetric}
+use Rattle.projection.specs.Layer.{layered}
 use Rattle.projection.specs.Projection.{weight, hat, residual, maker, product, residualMaker, mamOf}
-use Rattle.projection.proofs.MatrixLaws.{lt-or-le, table-same, symmetric-same, entry-square, entry-symmetric, is-symmetric}
+use Rattle.floats.proofs.MatrixLaws.{lt-or-le, table-same, symmetric-same, entry-square, entry-symmetric, is-symmetric}
 use Rattle.projection.proofs.LayerLaws.{sums, sums-none, sums-more, length-sums}
 use Rattle.projection.proofs.MirrorLaws.{identified}
 

@@ -10,9 +10,10 @@ use Rattle.floats.specs.Words.{_⊗_, plusZero, minusZero}
 use Rattle.floats.specs.Sums.{sumOf}
 use Rattle.floats.specs.Tables.{table, square, symmetric, part, withPart}
 use Rattle.design.specs.Difference.{differenceAt}
-use Rattle.projection.specs.Matrix.{entry, layered}
+use Rattle.floats.specs.Matrix.{entry}
+use Rattle.projection.specs.Layer.{layered}
 use Rattle.projection.specs.Projection.{residual, product, residualMaker, mamOf}
-use Rattle.projection.proofs.MatrixLaws.{length-symmetric}
+use Rattle.floats.proofs.MatrixLaws.{length-symmetric}
 use Rattle.projection.proofs.ProjectionLaws.{productTo, length-product, product-none, product-more, product-all, mam-of}
 
 -- a new front, and what stands behind it

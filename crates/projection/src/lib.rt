@@ -14,7 +14,8 @@ ghost use Rattle.floats.specs.Sums.{sumOf};
 ghost use Rattle.floats.specs.Search.{firstBad};
 ghost use Rattle.floats.specs.Tables.{table, square, symmetric, part};
 ghost use Rattle.design.specs.Difference.{differenceAt};
-ghost use Rattle.projection.specs.Matrix.{entry, layered};
+ghost use Rattle.floats.specs.Matrix.{entry};
+ghost use Rattle.projection.specs.Layer.{layered};
 ghost use Rattle.projection.specs.Projection.{weight, hat, residualMaker, mamOf};
 use floats::search::Found;
 

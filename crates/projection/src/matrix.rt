@@ -6,7 +6,8 @@ ghost use lib.Dec.{leb, ltb, eqb};
 ghost use lib.ListN.{length};
 ghost use Rattle.floats.specs.Words.{_⊕_, _⊗_, _‼_, one};
 ghost use Rattle.floats.specs.Tables.{table, square, symmetric};
-ghost use Rattle.projection.specs.Matrix.{entry, layered};
+ghost use Rattle.floats.specs.Matrix.{entry};
+ghost use Rattle.projection.specs.Layer.{layered};
 
 // Where entry (i, j) stands.
 pub fn place(n: usize, i: usize, j: usize) -> usize

@@ -17,7 +17,7 @@ use lib.Ieee.Positive.{positive, positive-finite, positive-of-value, value-pos}
 use Rattle.floats.specs.Words.{_⊕_, _⊗_, squareOf}
 use Rattle.floats.specs.Signs.{minus}
 use Rattle.roots.specs.Root.{rootOf, sqrtOf}
-use Rattle.roots.proofs.Squares.{side}
+use Rattle.floats.proofs.Commutes.{sum-swap}
 use Rattle.roots.proofs.Ladder.{unitsOf, below-top, own-value, holds}
 use Rattle.roots.specs.Nearest.{Holds}
 use Rattle.roots.proofs.Nearest.{root-is-nearest}
@@ -153,36 +153,6 @@ or-swap true true = refl
 or-swap true false = refl
 or-swap false true = refl
 or-swap false false = refl
-
--- ±a and ±b, of unlike signs
-unlike-swap : (a b c : ℕ) → sum binary64 true a false b c ≡ sum binary64 false b true a c
-unfolding sum
-unlike-swap a b c = elim (side a b) [
-  | inl h ↦ rw (lt-ltb a b h, le-ltb b a (omega arith))
-  | inr h ↦ elim (side b a) [ inl g ↦ rw (le-ltb a b h, lt-ltb b a g) | inr g ↦ let e : a - b ≡ b - a = omega arith in rw (le-ltb a b h, le-ltb b a g, e) ]
-]
-
-sum-signs : (s t : Bool) (a b c : ℕ) → sum binary64 s a t b c ≡ sum binary64 t b s a c
-unfolding sum
-sum-signs true true a b c = rw (add-comm a b)
-sum-signs true false a b c = unlike-swap a b c
-sum-signs false true a b c = sym (unlike-swap b a c)
-sum-signs false false a b c = rw (add-comm a b)
-
-sum-swap : (x y : Float) → x ⊕ y ≡ y ⊕ x
-unfolding add
-sum-swap nan nan = refl
-sum-swap nan (inf t) = refl
-sum-swap nan (fin t n d) = refl
-sum-swap (inf s) nan = refl
-sum-swap (inf true) (inf true) = refl
-sum-swap (inf true) (inf false) = refl
-sum-swap (inf false) (inf true) = refl
-sum-swap (inf false) (inf false) = refl
-sum-swap (inf s) (fin t n d) = refl
-sum-swap (fin s m e) nan = refl
-sum-swap (fin s m e) (inf t) = refl
-sum-swap (fin s m e) (fin t n d) = rw (mul-comm (down d) (down e)) (sum-signs s t (m * up e * down d) (n * up d * down e) (down e * down d))
 
 pub hypot-symmetric : (x y : Float) → hypotOf x y ≡ hypotOf y x
 unfolding hypotOf

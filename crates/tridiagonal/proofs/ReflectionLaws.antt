@@ -21,10 +21,10 @@ use Rattle.roots.specs.Root.{sqrtOf}
 use Rattle.floats.proofs.TurnLaws.{turns-keep}
 use Rattle.floats.proofs.ListLaws.{sum-same, length-part}
 use Rattle.floats.proofs.TableLaws.{length-table, getD-table}
-use Rattle.tridiagonal.specs.Matrix.{entry, Symmetric}
+use Rattle.floats.specs.Matrix.{entry, Symmetric}
 use Rattle.tridiagonal.specs.Reflection.{below, columnOf, normOf, alphaOf, normalOf, imageOf, correctionOf, edge, block, reflectedEntry, reflected, tridiagonalOf}
-use Rattle.tridiagonal.proofs.MatrixLaws.{lt-or-le, table-same, square-of, square-same, entry-square, length-square, part-square, part-entry, rowsTo, rows-from, rows-all, rows-kernel, store-square, row-apart}
-use Rattle.tridiagonal.proofs.Commutes.{sum-swap, product-swap}
+use Rattle.floats.proofs.MatrixLaws.{lt-or-le, table-same, square-of, square-same, entry-square, length-square, part-square, part-entry, rowsTo, rows-from, rows-all, rows-kernel, store-square, row-apart}
+use Rattle.floats.proofs.Commutes.{sum-swap, product-swap}
 
 -- ---- column c, from row c
 pub column-of-row : (n c start m : ℕ) (a : List Float) → length a ≡ n * n → c + 1 < n → Symmetric n a → m ≡ below n c → start ≡ c * n + (c + 1)

@@ -6,7 +6,7 @@ use lib.Dec.{ltb}
 use lib.Ieee.{Float}
 use Rattle.floats.specs.Words.{plusZero}
 use Rattle.floats.specs.Tables.{table}
-use Rattle.tridiagonal.specs.Matrix.{entry}
+use Rattle.floats.specs.Matrix.{entry}
 
 -- entries (i, i)
 abbrev pub diagonalOf : ℕ → List Float → List Float

@@ -1,3 +1,2 @@
-pub mod Matrix
 pub mod Reflection
 pub mod Bands

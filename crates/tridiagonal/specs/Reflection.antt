@@ -12,7 +12,7 @@ use Rattle.floats.specs.Sums.{sumOf, sumSquares}
 use Rattle.floats.specs.Tables.{table, square}
 use Rattle.floats.specs.Turns.{turns}
 use Rattle.roots.specs.Root.{sqrtOf}
-use Rattle.tridiagonal.specs.Matrix.{entry}
+use Rattle.floats.specs.Matrix.{entry}
 
 -- how many rows stand below row c
 abbrev pub below : ℕ → ℕ → ℕ

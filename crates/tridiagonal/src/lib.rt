@@ -3,7 +3,7 @@ ghost use mathlib.Core.Path.{_≡_};
 ghost use mathlib.Core.List.{_++_};
 ghost use Prim.Native.Nat.{_*_, _≤_, _<_};
 ghost use lib.ListN.{length, drop};
-ghost use Rattle.tridiagonal.specs.Matrix.{Symmetric};
+ghost use Rattle.floats.specs.Matrix.{Symmetric};
 ghost use Rattle.tridiagonal.specs.Reflection.{tridiagonalOf};
 ghost use Rattle.tridiagonal.specs.Bands.{diagonalOf, coupling, couplingsOf};
 

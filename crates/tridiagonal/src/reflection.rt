@@ -12,7 +12,7 @@ ghost use lib.Ieee.{lt, neg};
 ghost use Rattle.floats.specs.Words.{_⊕_, _⊖_, _⊗_, _‼_, plusZero};
 ghost use Rattle.floats.specs.Sums.{sumOf};
 ghost use Rattle.floats.specs.Tables.{table, square};
-ghost use Rattle.tridiagonal.specs.Matrix.{entry, Symmetric};
+ghost use Rattle.floats.specs.Matrix.{entry, Symmetric};
 ghost use Rattle.tridiagonal.specs.Reflection.{below, edge, block, imageOf, correctionOf, columnOf, reflectedEntry, reflected};
 
 // Where entry (i, j) stands.

@@ -6,9 +6,9 @@ use lib.ListN.{take, drop, length-take, length-replicate}
 use lib.Seq.{take-at, drop-at}
 use lib.Ieee.{Float}
 use Rattle.projection.specs.Projection.{product, mamOf}
-use Rattle.projection.proofs.MatrixLaws.{length-symmetric}
+use Rattle.floats.proofs.MatrixLaws.{length-symmetric}
 use Rattle.projection.proofs.ProjectionLaws.{mam-symmetric}
-use Rattle.tridiagonal.specs.Matrix.{Symmetric}
+use Rattle.floats.specs.Matrix.{Symmetric}
 use Rattle.eigen.proofs.SpectrumLaws.{matrix-bad, matrix-good}
 use borrow.Author.Needs.{needs}
 use Rattle.eigen.proofs.ma_eigenvalues.Statement.{statement}

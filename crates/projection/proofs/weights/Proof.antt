@@ -1,7 +1,7 @@
 -- After t turns the first t numbers are the column's. Assumes nothing.
 use lib.Ieee.{nan}
 use Rattle.projection.specs.Projection.{weight}
-use Rattle.projection.proofs.RowLaws.{filled, filled-none, filled-more, filled-all}
+use Rattle.floats.proofs.RowLaws.{filled, filled-none, filled-more, filled-all}
 use Prim.Native.Nat.{_≤_, _<_, _-_}
 use native.Mathlib.Omega.{arith}
 use mathlib.Core.Path.{_≡_, refl, _∙_}

@@ -1,7 +1,7 @@
 use lib.Ieee.{nan}
-use Rattle.tridiagonal.specs.Matrix.{entry}
+use Rattle.floats.specs.Matrix.{entry}
 use Rattle.tridiagonal.specs.Bands.{coupling}
-use Rattle.tridiagonal.proofs.RowLaws.{filled, filled-none, filled-more}
+use Rattle.floats.proofs.RowLaws.{filled, filled-none, filled-more}
 use Prim.Native.Nat.{ℕ, zero, suc, _≤_, _<_, _-_, _*_, _+_}
 use native.Mathlib.Omega.{arith}
 use native.Mathlib.Numerals.{add-one}

@@ -1,7 +1,8 @@
 -- After i turns the first i rows have the layer, each up to its diagonal. Assumes nothing.
 use lib.ListN.{length-take, length-drop}
-use Rattle.projection.proofs.MatrixLaws.{rowsTo, rows-none, rows-all, square-of}
-use Rattle.projection.specs.Matrix.{entry, layered}
+use Rattle.floats.proofs.MatrixLaws.{rowsTo, rows-none, rows-all, square-of}
+use Rattle.floats.specs.Matrix.{entry}
+use Rattle.projection.specs.Layer.{layered}
 use Rattle.projection.proofs.LayerLaws.{layer-row}
 use Prim.Native.Nat.{_≤_, _-_}
 use native.Mathlib.Omega.{arith}

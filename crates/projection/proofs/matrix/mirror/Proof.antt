@@ -1,8 +1,8 @@
 -- After i turns the first i rows stand in the first i columns too. Assumes nothing.
 use Rattle.projection.proofs.MirrorLaws.{copied, mirrored, mirrored-none, mirrored-more, mirrored-all}
 use Rattle.floats.specs.Tables.{square}
-use Rattle.projection.specs.Matrix.{entry}
-use Rattle.projection.proofs.MatrixLaws.{square-of}
+use Rattle.floats.specs.Matrix.{entry}
+use Rattle.floats.proofs.MatrixLaws.{square-of}
 use Prim.Native.Nat.{_≤_, _-_}
 use native.Mathlib.Omega.{arith}
 use native.Mathlib.Nat.{le-antisymm}

@@ -1,7 +1,7 @@
 -- After j turns the first j entries of row i stand in column i too. Assumes nothing.
 use Rattle.floats.specs.Tables.{square}
-use Rattle.projection.specs.Matrix.{entry}
-use Rattle.projection.proofs.MatrixLaws.{square-of}
+use Rattle.floats.specs.Matrix.{entry}
+use Rattle.floats.proofs.MatrixLaws.{square-of}
 use Rattle.projection.proofs.MirrorLaws.{copied, copied-none, copied-more}
 use Prim.Native.Nat.{_≤_, _-_}
 use native.Mathlib.Omega.{arith}

@@ -1,7 +1,7 @@
 -- After j turns the first j numbers are new, and number j is the old one when turn j reads it. Assumes nothing.
 use lib.Ieee.{nan}
 use Rattle.floats.specs.Words.{_⊕_, _⊖_, _‼_}
-use Rattle.projection.proofs.RowLaws.{filled, filled-none, filled-here, filled-more, filled-all}
+use Rattle.floats.proofs.RowLaws.{filled, filled-none, filled-here, filled-more, filled-all}
 use Prim.Native.Nat.{_≤_, _<_, _-_}
 use native.Mathlib.Omega.{arith}
 use mathlib.Core.Path.{_≡_, refl, _∙_}

@@ -5,7 +5,7 @@ use mathlib.Core.Path.{_≡_, refl, _∙_}
 use lib.ListN.{length, length-set}
 use lib.Ieee.{nan}
 use Rattle.floats.specs.Words.{_⊕_, _⊗_, _‼_}
-use Rattle.projection.proofs.RowLaws.{filled, filled-none, filled-here, filled-more, filled-all}
+use Rattle.floats.proofs.RowLaws.{filled, filled-none, filled-here, filled-more, filled-all}
 use borrow.Author.Needs.{needs}
 use Rattle.projection.proofs.rows.add_multiple.Statement.{statement}
 use Rattle.projection.proofs.rows.add_multiple.Tie as tie

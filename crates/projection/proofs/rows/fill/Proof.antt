@@ -1,6 +1,6 @@
 -- After j turns the first j numbers are new. Assumes nothing.
 use lib.Ieee.{nan}
-use Rattle.projection.proofs.RowLaws.{filled, filled-none, filled-more, filled-all}
+use Rattle.floats.proofs.RowLaws.{filled, filled-none, filled-more, filled-all}
 use Prim.Native.Nat.{_≤_, _<_, _-_}
 use native.Mathlib.Omega.{arith}
 use mathlib.Core.Path.{_≡_, refl, _∙_}

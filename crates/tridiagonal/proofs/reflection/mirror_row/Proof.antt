@@ -1,6 +1,6 @@
 use Rattle.floats.specs.Tables.{square}
-use Rattle.tridiagonal.specs.Matrix.{entry}
-use Rattle.tridiagonal.proofs.MatrixLaws.{square-of}
+use Rattle.floats.specs.Matrix.{entry}
+use Rattle.floats.proofs.MatrixLaws.{square-of}
 use Rattle.tridiagonal.proofs.ReflectionLaws.{copied, copied-none, copied-more, copied-all}
 use Prim.Native.Nat.{ℕ, zero, suc, _≤_, _<_, _-_, _*_, _+_}
 use native.Mathlib.Omega.{arith}

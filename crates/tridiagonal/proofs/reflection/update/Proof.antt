@@ -1,6 +1,6 @@
 use Rattle.tridiagonal.proofs.ReflectionLaws.{updated, update-none, update-row, update-all}
-use Rattle.tridiagonal.specs.Matrix.{entry}
-use Rattle.tridiagonal.proofs.MatrixLaws.{rowsTo}
+use Rattle.floats.specs.Matrix.{entry}
+use Rattle.floats.proofs.MatrixLaws.{rowsTo}
 use Rattle.tridiagonal.specs.Reflection.{below}
 use Prim.Native.Nat.{ℕ, zero, suc, _≤_, _<_, _-_, _*_, _+_}
 use native.Mathlib.Omega.{arith}

@@ -1,4 +1,4 @@
-use Rattle.tridiagonal.proofs.RowLaws.{lead-table}
+use Rattle.floats.proofs.RowLaws.{lead-table}
 use borrow.Author.Needs.{needs}
 use Rattle.tridiagonal.proofs.rows.lead.Statement.{statement}
 use Rattle.tridiagonal.proofs.rows.lead.Tie as tie

@@ -1,6 +1,6 @@
 use lib.Ieee.{nan}
 use Rattle.floats.specs.Words.{_⊕_, _⊖_, _⊗_, _⊘_, _‼_, two}
-use Rattle.tridiagonal.proofs.RowLaws.{filled, filled-none, filled-here, filled-more, filled-all}
+use Rattle.floats.proofs.RowLaws.{filled, filled-none, filled-here, filled-more, filled-all}
 use Prim.Native.Nat.{ℕ, zero, suc, _≤_, _<_, _-_, _*_, _+_}
 use native.Mathlib.Omega.{arith}
 use native.Mathlib.Numerals.{add-one}

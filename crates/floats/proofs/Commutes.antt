@@ -7,8 +7,8 @@ use mathlib.Core.Logic.{inl, inr}
 use mathlib.Core.Bool.{Bool, true, false}
 use borrow.Author.Tests.{lt-ltb, le-ltb}
 use lib.Ieee.{Float, nan, inf, fin, binary64, up, down, unlike, round, sum, add, mul}
 use Rattle.floats.specs.Words.{_⊕_, _⊗_}
-use Rattle.tridiagonal.proofs.MatrixLaws.{lt-or-le}
+use Rattle.floats.proofs.MatrixLaws.{lt-or-le}
 
 -- ---- sums
 

@@ -15,11 +15,11 @@ use lib.Seq.{getD-set-same, getD-set-other, ext-getD, getD-append-add, getD-take
 use lib.Arith.{digits-lt, digits-div, digits-mod}
 use lib.Ieee.{Float, nan}
 use borrow.Author.Tests.{lt-ltb, le-ltb, ltb-true, ltb-false}
 use Rattle.floats.specs.Words.{_‼_}
 use Rattle.floats.specs.Tables.{table, square, symmetric, part, withPart}
 use Rattle.floats.proofs.TableLaws.{length-table, getD-table}
 use Rattle.floats.proofs.ListLaws.{length-withPart, length-part, getD-part}
-use Rattle.projection.specs.Matrix.{entry, Symmetric}
+use Rattle.floats.specs.Matrix.{entry, Symmetric}
 
 -- ---- parts of a run
 
@@ -112,69 +112,86 @@ place-in : {n i j : ℕ} → i < n → j < n → i * n + j < n * n
 place-in {n} {i} {j} h k = digits-lt {q = i} {m = n} {r = j} {c = n} h k
 
 -- rows that differ do not overlap
-row-apart : (n : ℕ) {i r : ℕ} → i < r → i * n + n ≤ r * n
+pub row-apart : (n : ℕ) {i r : ℕ} → i < r → i * n + n ≤ r * n
 row-apart n {i} {r} h = rw suc-mul at (mul-le-mul-right n h)
+
+-- ---- columns lo to hi of row i, stored
+
+module _ (n : ℕ) (f g : ℕ → ℕ → Float) (i : ℕ) {lo hi : ℕ} (h : i < n) (k : lo ≤ hi) (m : hi ≤ n) (ys : List Float) (e : length ys ≡ hi - lo) where
+  bound : i * n + hi ≤ length (square f n)
+  bound = omega (arith, row-apart n h, length-square n f)
+
+  width : hi - lo ≡ i * n + hi - (i * n + lo)
+  width = omega arith
+
+  shift : (c : ℕ) → lo ≤ c → i * n + c ≡ i * n + lo + (c - lo)
+  shift c b = omega arith
+
+  -- g is f but for those columns of row i
+  pub part-square : ((c : ℕ) → lo ≤ c → c < hi → ys ‼ (c - lo) ≡ g i c) → ((c : ℕ) → c < n → (c < lo) ⊎ (hi ≤ c) → f i c ≡ g i c)
+      → ((r c : ℕ) → r < n → c < n → (r ≡ i → ⊥) → f r c ≡ g r c) → withPart (i * n + lo) (i * n + hi) (square f n) ys ≡ square g n
+  part-square inside outside others =
+      square-of n g (withPart (i * n + lo) (i * n + hi) (square f n) ys)
+      (length-withPart (square f n) (omega arith) bound ys (e ∙ width) ∙ length-square n f)
+      at-entry
+    where
+      same-row : (c : ℕ) → c < n → entry n (withPart (i * n + lo) (i * n + hi) (square f n) ys) i c ≡ g i c
+      same-row c q =
+          ⊎-elim
+          (λ b. part-before (square f n) ys (omega arith) bound (e ∙ width) (i * n + c) (omega arith) ∙ entry-square n f i c h q ∙ outside c q (inl b))
+          (λ b. ⊎-elim
+          (λ d. ap (λ (z : ℕ). withPart (i * n + lo) (i * n + hi) (square f n) ys ‼ z) (shift c b) ∙ part-inside (square f n) ys (omega arith) bound (e ∙ width) (c - lo) (omega arith) ∙ inside c b d)
+          (λ d. part-after (square f n) ys (omega arith) bound (e ∙ width) (i * n + c) (omega arith) ∙ entry-square n f i c h q ∙ outside c q (inr d))
+          (lt-or-le c hi))
+          (lt-or-le c lo)
+
+      at-entry : (r c : ℕ) → r < n → c < n → entry n (withPart (i * n + lo) (i * n + hi) (square f n) ys) r c ≡ g r c
+      at-entry r c p q =
+          ⊎-elim
+          (λ b. part-before (square f n) ys (omega arith) bound (e ∙ width) (r * n + c) (omega (arith, row-apart n b))
+          ∙ entry-square n f r c p q ∙ others r c p q (λ z. omega arith))
+          (λ b. ⊎-elim
+          (λ (d : r < i + 1). let z : r ≡ i = omega arith in rw z (same-row c q))
+          (λ (d : i + 1 ≤ r). part-after (square f n) ys (omega arith) bound (e ∙ width) (r * n + c) (omega (arith, row-apart n {i = i} {r = r} (omega arith)))
+          ∙ entry-square n f r c p q ∙ others r c p q (λ z. omega arith))
+          (lt-or-le r (i + 1)))
+          (lt-or-le r i)
+
+-- number j of such a part
+pub part-entry : (n i lo hi j : ℕ) (a : List Float) → length a ≡ n * n → i < n → lo ≤ hi → hi ≤ n → j < hi - lo → part (i * n + lo) (i * n + hi) a ‼ j ≡ entry n a i (lo + j)
+part-entry n i lo hi j a e h k m l =
+    let z : i * n + lo + j ≡ i * n + (lo + j) = omega arith in
+    getD-part a {a = i * n + lo} {e = i * n + hi} (omega arith) (omega (arith, row-apart n h)) j nan (omega arith) ∙ ap (λ (y : ℕ). a ‼ y) z
 
 -- ---- rows, one after another
 
 module _ (n : ℕ) (new old : ℕ → ℕ → Float) where
+  -- row r, when the first i rows are new
+  abbrev rowsBy : ℕ → ℕ → ℕ → Float
+  rowsBy i r c = cond (ltb r i) (new r c) (old r c)
+
   -- the first i rows new, the others old
   unfoldable pub rowsTo : ℕ → List Float
-  rowsTo i = square (λ r c. cond (ltb r i) (new r c) (old r c)) n
+  rowsTo i = square (rowsBy i) n
+
+  -- the first rows may be the same either way
+  pub rows-from : (i : ℕ) → ((r c : ℕ) → r < i → new r c ≡ old r c) → square old n ≡ rowsTo i
+  unfolding rowsTo
+  rows-from i e =
+      square-same n old (rowsBy i)
+      (λ r c h k. ⊎-elim (λ (b : r < i). rw (lt-ltb r i b) (sym (e r c b))) (λ (b : i ≤ r). rw (le-ltb r i b)) (lt-or-le r i))
 
   pub rows-none : square old n ≡ rowsTo 0
-  unfolding rowsTo
-  rows-none = square-same n old (λ r c. cond (ltb r 0) (new r c) (old r c)) (λ r c h k. rw (le-ltb r 0 (omega arith)))
-
-  pub rows-all : rowsTo n ≡ square new n
-  unfolding rowsTo
-  rows-all = square-same n (λ r c. cond (ltb r n) (new r c) (old r c)) new (λ r c h k. rw (lt-ltb r n h))
+  rows-none = rows-from 0 (λ r c h. absurd (not-suc-le-zero h))
 
   -- row i, when its turn comes
   pub row-old : (i c : ℕ) → i < n → c < n → entry n (rowsTo i) i c ≡ old i c
   unfolding rowsTo
-  row-old i c h k = entry-square n (λ r c. cond (ltb r i) (new r c) (old r c)) i c h k ∙ rw (le-ltb i i (omega arith))
+  row-old i c h k = entry-square n (rowsBy i) i c h k ∙ rw (le-ltb i i (omega arith))
 
-  -- columns lo to hi of row i, stored
-  module _ (i : ℕ) {lo hi : ℕ} (h : i < n) (k : lo ≤ hi) (m : hi ≤ n) (ys : List Float) (e : length ys ≡ hi - lo) where
-    pub rows-more : ((c : ℕ) → lo ≤ c → c < hi → ys ‼ (c - lo) ≡ new i c) → ((c : ℕ) → c < n → (c < lo) ⊎ (hi ≤ c) → old i c ≡ new i c)
-        → withPart (i * n + lo) (i * n + hi) (rowsTo i) ys ≡ rowsTo (i + 1)
-    unfolding rowsTo
-    rows-more inside outside =
-        square-of n (λ r c. cond (ltb r (i + 1)) (new r c) (old r c)) (withPart (i * n + lo) (i * n + hi) (rowsTo i) ys)
-        (length-withPart (rowsTo i) (omega arith) bound ys (e ∙ width) ∙ length-square n (λ r c. cond (ltb r i) (new r c) (old r c)))
-        at-entry
-      where
-        bound : i * n + hi ≤ length (rowsTo i)
-        bound = omega (arith, row-apart n h, length-square n (λ r c. cond (ltb r i) (new r c) (old r c)))
-
-        width : hi - lo ≡ i * n + hi - (i * n + lo)
-        width = omega arith
-
-        shift : (c : ℕ) → lo ≤ c → i * n + c ≡ i * n + lo + (c - lo)
-        shift c b = omega arith
-
-        same-row : (c : ℕ) → c < n → entry n (withPart (i * n + lo) (i * n + hi) (rowsTo i) ys) i c ≡ new i c
-        same-row c q =
-            ⊎-elim
-            (λ b. part-before (rowsTo i) ys (omega arith) bound (e ∙ width) (i * n + c) (omega arith) ∙ row-old i c h q ∙ outside c q (inl b))
-            (λ b. ⊎-elim
-            (λ d. ap (λ (z : ℕ). withPart (i * n + lo) (i * n + hi) (rowsTo i) ys ‼ z) (shift c b) ∙ part-inside (rowsTo i) ys (omega arith) bound (e ∙ width) (c - lo) (omega arith) ∙ inside c b d)
-            (λ d. part-after (rowsTo i) ys (omega arith) bound (e ∙ width) (i * n + c) (omega arith) ∙ row-old i c h q ∙ outside c q (inr d))
-            (lt-or-le c hi))
-            (lt-or-le c lo)
-
-        at-entry : (r c : ℕ) → r < n → c < n → entry n (withPart (i * n + lo) (i * n + hi) (rowsTo i) ys) r c ≡ cond (ltb r (i + 1)) (new r c) (old r c)
-        at-entry r c p q =
-            ⊎-elim
-            (λ b. part-before (rowsTo i) ys (omega arith) bound (e ∙ width) (r * n + c) (omega (arith, row-apart n b))
-            ∙ entry-square n (λ r c. cond (ltb r i) (new r c) (old r c)) r c p q ∙ rw (lt-ltb r i b, lt-ltb r (i + 1) (omega arith)))
-            (λ b. ⊎-elim
-            (λ (d : r < i + 1). let z : r ≡ i = omega arith in rw (z, lt-ltb i (i + 1) (omega arith)) (same-row c q))
-            (λ (d : i + 1 ≤ r). part-after (rowsTo i) ys (omega arith) bound (e ∙ width) (r * n + c) (omega (arith, row-apart n {i = i} {r = r} (omega arith)))
-            ∙ entry-square n (λ r c. cond (ltb r i) (new r c) (old r c)) r c p q ∙ rw (le-ltb r i b, le-ltb r (i + 1) (omega arith)))
-            (lt-or-le r (i + 1)))
-            (lt-or-le r i)
+  pub rows-all : rowsTo n ≡ square new n
+  unfolding rowsTo
+  rows-all = square-same n (rowsBy n) new (λ r c h k. rw (lt-ltb r n h))
 
   -- columns lo to hi of row i, each number made of the one that stood there
   pub rows-kernel : (i a e lo hi : ℕ) (g : ℕ → Float → Float) → i < n → a ≡ i * n + lo → e ≡ i * n + hi → lo ≤ hi → hi ≤ n
@@ -183,21 +200,24 @@ module _ (n : ℕ) (new old : ℕ → ℕ → Float) where
   unfolding rowsTo
   rows-kernel i a e lo hi g h s t k m inside outside =
       rw (s, t)
-      (rows-more i h k m (table (λ j. g j (part (i * n + lo) (i * n + hi) (rowsTo i) ‼ j)) (length (part (i * n + lo) (i * n + hi) (rowsTo i))))
-      (length-table _ _ ∙ wide) right outside)
+      (part-square n (rowsBy i) (rowsBy (i + 1)) i h k m (table (λ j. g j (part (i * n + lo) (i * n + hi) (rowsTo i) ‼ j)) (length (part (i * n + lo) (i * n + hi) (rowsTo i))))
+      (length-table _ _ ∙ wide) right
+      (λ c q o. rw (le-ltb i i (omega arith), lt-ltb i (i + 1) (omega arith)) (outside c q o))
+      (λ r c p q z. ⊎-elim (λ (b : r < i). rw (lt-ltb r i b, lt-ltb r (i + 1) (omega arith)))
+      (λ (b : i ≤ r). ⊎-elim (λ (d : r < i + 1). absurd (z (omega arith))) (λ (d : i + 1 ≤ r). rw (le-ltb r i b, le-ltb r (i + 1) d)) (lt-or-le r (i + 1)))
+      (lt-or-le r i)))
     where
-      bound : i * n + hi ≤ length (rowsTo i)
-      bound = omega (arith, row-apart n h, length-square n (λ r c. cond (ltb r i) (new r c) (old r c)))
-
       wide : length (part (i * n + lo) (i * n + hi) (rowsTo i)) ≡ hi - lo
-      wide = length-part (rowsTo i) {a = i * n + lo} {e = i * n + hi} (omega arith) bound ∙ omega arith
+      wide = length-part (rowsTo i) {a = i * n + lo} {e = i * n + hi} (omega arith) (omega (arith, row-apart n h, length-square n (rowsBy i))) ∙ omega arith
 
-      right : (c : ℕ) → lo ≤ c → c < hi → table (λ j. g j (part (i * n + lo) (i * n + hi) (rowsTo i) ‼ j)) (length (part (i * n + lo) (i * n + hi) (rowsTo i))) ‼ (c - lo) ≡ new i c
+      right : (c : ℕ) → lo ≤ c → c < hi → table (λ j. g j (part (i * n + lo) (i * n + hi) (rowsTo i) ‼ j)) (length (part (i * n + lo) (i * n + hi) (rowsTo i))) ‼ (c - lo) ≡ rowsBy (i + 1) i c
       right c b d =
-          let z : i * n + lo + (c - lo) ≡ i * n + c = omega arith in
-          getD-table (λ j. g j (part (i * n + lo) (i * n + hi) (rowsTo i) ‼ j)) (length (part (i * n + lo) (i * n + hi) (rowsTo i))) (c - lo) nan (rw wide (omega arith))
-          ∙ ap (g (c - lo)) (getD-part (rowsTo i) {a = i * n + lo} {e = i * n + hi} (omega arith) bound (c - lo) nan (omega arith) ∙ rw z (row-old i c h (omega arith)))
-          ∙ inside c b d
+          let z : lo + (c - lo) ≡ c = omega arith in
+          let y : rowsBy i i c ≡ old i c = rw (le-ltb i i (omega arith)) in
+          rw (lt-ltb i (i + 1) (omega arith))
+          (getD-table (λ j. g j (part (i * n + lo) (i * n + hi) (rowsTo i) ‼ j)) (length (part (i * n + lo) (i * n + hi) (rowsTo i))) (c - lo) nan (rw wide (omega arith))
+          ∙ ap (g (c - lo)) (part-entry n i lo hi (c - lo) (rowsTo i) (length-square n (rowsBy i)) h k m (omega arith) ∙ rw z (entry-square n (rowsBy i) i c h (omega arith)) ∙ y)
+          ∙ inside c b d)
 
 -- ---- one entry stored
 

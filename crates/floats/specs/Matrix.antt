@@ -1,10 +1,10 @@
 -- Matrices of n rows and n columns that stand in a run of numbers. Entry (i, j) is in row i and column j, both counted from 0.
--- `entry` and floats' `square` are the only words that say where an entry stands: row after row. Definitions only. Assumes nothing.
+-- `entry`, `square` and `symmetric` are the only words that say where an entry stands: row after row. Definitions only. Assumes nothing.
 use Prim.Native.Nat.{ℕ, _+_, _*_, _<_}
 use mathlib.Core.Path.{_≡_}
 use mathlib.Core.List.{List}
 use lib.Ieee.{Float}
 use Rattle.floats.specs.Words.{_‼_}
 
 -- entry (i, j) of the matrix that a holds
 abbrev pub entry : ℕ → List Float → ℕ → ℕ → Float
