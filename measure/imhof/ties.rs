@@ -1,5 +1,5 @@
 //! Finds sets of weights at which two parts share the greatest error to the bit. usage: ties SETS SEED
-//! By chance that is rarer than one set in 100,000. So one weight of a drawn set is moved until another part comes to be split, the place where
+//! By chance that is rare: none of 20,000 drawn sets has one (README.md). So one weight of a drawn set is moved until another part comes to be split, the place where
 //! that happens is halved down to neighbouring doubles, and the doubles around it are tried. A line has a set's weights by their bits.
 use imhof::room;
 
