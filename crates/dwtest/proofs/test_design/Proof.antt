@@ -40,7 +40,13 @@ refused-requires : tie.Need-refused-requires
 refused-requires c κs = search needs
 
 returns : tie.Need-returns
-returns c = let q = ap passes (sym (c .before .before .before .of-pivots .ensures)) ∙ ne-eqb _ _ (c .before .if1 .taken) in let s = pivot-fails (c .before .before .before .before .before .before .before .before .before .args .columns .now) (c .before .before .before .before .before .before .before .before .before .args .n) (c .before .before .before .before .before .before .before .before .before .args .k) (c .before .before .before .before .before .before .before .before .before .args .d) (c .before .before .before .before .before .before .before .before .before .args .alternative) (c .before .before .before .before .before .before .before .before .before .args .choice) (length (c .before .before .before .before .before .before .before .before .before .args .matrix .now)) (length (c .before .before .before .before .before .before .before .before .before .args .parts .now)) _ (sym (c .before .before .before .before .factor .ensures .0)) q in (c .refused .ensures ∙ ap refusedOf (c .before .before .before .of-pivots .ensures) ∙ sym (s .0), (untouched _ (2 * ((c .before .before .before .before .before .before .before .before .before .args .n) * (c .before .before .before .before .before .before .before .before .before .args .n))) (c .before .before .before .before .before .before .before .before .before .args .matrix .now) (s .1), untouched _ 8004 (c .before .before .before .before .before .before .before .before .before .args .parts .now) (s .1)))
+returns c =
+    let args = c .before .before .before .before .before .before .before .before .before .args in
+    let factor = c .before .before .before .before .factor in
+    let of-pivots = c .before .before .before .of-pivots in
+    let q = ap passes (sym (of-pivots .ensures)) ∙ ne-eqb _ _ (c .before .if1 .taken) in
+    let s = pivot-fails (args .columns .now) (args .n) (args .k) (args .d) (args .alternative) (args .choice) (length (args .matrix .now)) (length (args .parts .now)) _ (sym (factor .ensures .0)) q in
+    (c .refused .ensures ∙ ap refusedOf (of-pivots .ensures) ∙ sym (s .0), (untouched _ (2 * ((args .n) * (args .n))) (args .matrix .now) (s .1), untouched _ 8004 (args .parts .now) (s .1)))
 
 inverse-of-factor-requires : tie.Need-inverse-of-factor-requires
 inverse-of-factor-requires c κs = search needs
@@ -52,7 +58,19 @@ refused-requires-2 : tie.Need-refused-requires-2
 refused-requires-2 c κs = search needs
 
 returns-2 : tie.Need-returns-2
-returns-2 c = let q = ap passes (sym (c .before .before .before .before .before .before .before .of-pivots .ensures)) ∙ eq-eqb _ _ (c .before .before .before .before .before .if1 .left) in let hold = pivots-hold _ (ap (λ p. passes (pivotsRefusal p)) (sym (c .before .before .before .before .before .before .before .before .factor .ensures .0)) ∙ q) in let inv = sym (c .before .before .before .before .inverse-of-factor .ensures ∙ ap (λ z. inverseFrom z (c .before .before .before .before .before .before .before .before .before .before .before .before .before .args .k)) (c .before .before .before .before .before .before .before .before .factor .ensures .1 ∙ ap (λ p. factorOf (c .before .before .before .before .before .before .before .before .before .before .before .before .before .args .columns .now) (c .before .before .before .before .before .before .before .before .before .before .before .before .before .args .n) (rowsMade (c .before .before .before .before .before .before .before .before .before .before .before .before .before .args .k) p)) hold)) in let f = ap passes (sym (c .before .before .before .of-inverse .ensures)) ∙ ne-eqb _ _ (c .before .if2 .taken) in let s = inverse-refused (c .before .before .before .before .before .before .before .before .before .before .before .before .before .args .columns .now) (c .before .before .before .before .before .before .before .before .before .before .before .before .before .args .n) (c .before .before .before .before .before .before .before .before .before .before .before .before .before .args .k) (c .before .before .before .before .before .before .before .before .before .before .before .before .before .args .d) (c .before .before .before .before .before .before .before .before .before .before .before .before .before .args .alternative) (c .before .before .before .before .before .before .before .before .before .before .before .before .before .args .choice) (length (c .before .before .before .before .before .before .before .before .before .before .before .before .before .args .matrix .now)) (length (c .before .before .before .before .before .before .before .before .before .before .before .before .before .args .parts .now)) _ hold inv f in (c .refused2 .ensures ∙ ap refusedOf (c .before .before .before .of-inverse .ensures) ∙ sym (s .0), (untouched _ (2 * ((c .before .before .before .before .before .before .before .before .before .before .before .before .before .args .n) * (c .before .before .before .before .before .before .before .before .before .before .before .before .before .args .n))) (c .before .before .before .before .before .before .before .before .before .before .before .before .before .args .matrix .now) (s .1), untouched _ 8004 (c .before .before .before .before .before .before .before .before .before .before .before .before .before .args .parts .now) (s .1)))
+returns-2 c =
+    let args = c .before .before .before .before .before .before .before .before .before .before .before .before .before .args in
+    let factor = c .before .before .before .before .before .before .before .before .factor in
+    let of-pivots = c .before .before .before .before .before .before .before .of-pivots in
+    let if1 = c .before .before .before .before .before .if1 in
+    let inverse-of-factor = c .before .before .before .before .inverse-of-factor in
+    let of-inverse = c .before .before .before .of-inverse in
+    let q = ap passes (sym (of-pivots .ensures)) ∙ eq-eqb _ _ (if1 .left) in
+    let hold = pivots-hold _ (ap (λ p. passes (pivotsRefusal p)) (sym (factor .ensures .0)) ∙ q) in
+    let inv = sym (inverse-of-factor .ensures ∙ ap (λ z. inverseFrom z (args .k)) (factor .ensures .1 ∙ ap (λ p. factorOf (args .columns .now) (args .n) (rowsMade (args .k) p)) hold)) in
+    let f = ap passes (sym (of-inverse .ensures)) ∙ ne-eqb _ _ (c .before .if2 .taken) in
+    let s = inverse-refused (args .columns .now) (args .n) (args .k) (args .d) (args .alternative) (args .choice) (length (args .matrix .now)) (length (args .parts .now)) _ hold inv f in
+    (c .refused2 .ensures ∙ ap refusedOf (of-inverse .ensures) ∙ sym (s .0), (untouched _ (2 * ((args .n) * (args .n))) (args .matrix .now) (s .1), untouched _ 8004 (args .parts .now) (s .1)))
 
 new-requires : tie.Need-new-requires
 new-requires c κs = search needs
@@ -61,7 +79,20 @@ accepted-requires : tie.Need-accepted-requires
 accepted-requires c κs = search needs
 
 returns-3 : tie.Need-returns-3
-returns-3 c = let q = ap passes (sym (c .before .before .before .before .before .before .before .before .before .of-pivots .ensures)) ∙ eq-eqb _ _ (c .before .before .before .before .before .before .before .if1 .left) in let hold = pivots-hold _ (ap (λ p. passes (pivotsRefusal p)) (sym (c .before .before .before .before .before .before .before .before .before .before .factor .ensures .0)) ∙ q) in let inv = sym (c .before .before .before .before .before .before .inverse-of-factor .ensures ∙ ap (λ z. inverseFrom z (c .before .before .before .before .before .before .before .before .before .before .before .before .before .before .before .args .k)) (c .before .before .before .before .before .before .before .before .before .before .factor .ensures .1 ∙ ap (λ p. factorOf (c .before .before .before .before .before .before .before .before .before .before .before .before .before .before .before .args .columns .now) (c .before .before .before .before .before .before .before .before .before .before .before .before .before .before .before .args .n) (rowsMade (c .before .before .before .before .before .before .before .before .before .before .before .before .before .before .before .args .k) p)) hold)) in let f = ap passes (sym (c .before .before .before .before .before .of-inverse .ensures)) ∙ eq-eqb _ _ (c .before .before .before .if2 .left) in let s = too-few (c .before .before .before .before .before .before .before .before .before .before .before .before .before .before .before .args .columns .now) (c .before .before .before .before .before .before .before .before .before .before .before .before .before .before .before .args .n) (c .before .before .before .before .before .before .before .before .before .before .before .before .before .before .before .args .k) (c .before .before .before .before .before .before .before .before .before .before .before .before .before .before .before .args .d) (c .before .before .before .before .before .before .before .before .before .before .before .before .before .before .before .args .alternative) (c .before .before .before .before .before .before .before .before .before .before .before .before .before .before .before .args .choice) (length (c .before .before .before .before .before .before .before .before .before .before .before .before .before .before .before .args .matrix .now)) (length (c .before .before .before .before .before .before .before .before .before .before .before .before .before .before .before .args .parts .now)) _ hold inv f (lt-ltb (c .before .before .before .before .before .before .before .before .before .before .before .before .before .before .before .args .n) 3 (c .before .if3 .taken)) in (c .accepted .ensures ∙ rw (c .before .before .new .ensures) (sym (s .0)), (untouched _ (2 * ((c .before .before .before .before .before .before .before .before .before .before .before .before .before .before .before .args .n) * (c .before .before .before .before .before .before .before .before .before .before .before .before .before .before .before .args .n))) (c .before .before .before .before .before .before .before .before .before .before .before .before .before .before .before .args .matrix .now) (s .1), untouched _ 8004 (c .before .before .before .before .before .before .before .before .before .before .before .before .before .before .before .args .parts .now) (s .1)))
+returns-3 c =
+    let args = c .before .before .before .before .before .before .before .before .before .before .before .before .before .before .before .args in
+    let factor = c .before .before .before .before .before .before .before .before .before .before .factor in
+    let of-pivots = c .before .before .before .before .before .before .before .before .before .of-pivots in
+    let if1 = c .before .before .before .before .before .before .before .if1 in
+    let inverse-of-factor = c .before .before .before .before .before .before .inverse-of-factor in
+    let of-inverse = c .before .before .before .before .before .of-inverse in
+    let if2 = c .before .before .before .if2 in
+    let q = ap passes (sym (of-pivots .ensures)) ∙ eq-eqb _ _ (if1 .left) in
+    let hold = pivots-hold _ (ap (λ p. passes (pivotsRefusal p)) (sym (factor .ensures .0)) ∙ q) in
+    let inv = sym (inverse-of-factor .ensures ∙ ap (λ z. inverseFrom z (args .k)) (factor .ensures .1 ∙ ap (λ p. factorOf (args .columns .now) (args .n) (rowsMade (args .k) p)) hold)) in
+    let f = ap passes (sym (of-inverse .ensures)) ∙ eq-eqb _ _ (if2 .left) in
+    let s = too-few (args .columns .now) (args .n) (args .k) (args .d) (args .alternative) (args .choice) (length (args .matrix .now)) (length (args .parts .now)) _ hold inv f (lt-ltb (args .n) 3 (c .before .if3 .taken)) in
+    (c .accepted .ensures ∙ rw (c .before .before .new .ensures) (sym (s .0)), (untouched _ (2 * ((args .n) * (args .n))) (args .matrix .now) (s .1), untouched _ 8004 (args .parts .now) (s .1)))
 
 wants-exact-requires : tie.Need-wants-exact-requires
 wants-exact-requires c κs = search needs
@@ -70,7 +101,22 @@ normal-requires : tie.Need-normal-requires
 normal-requires c κs = search needs
 
 returns-4 : tie.Need-returns-4
-returns-4 c = let q = ap passes (sym (c .before .before .before .before .before .before .before .before .before .before .before .of-pivots .ensures)) ∙ eq-eqb _ _ (c .before .before .before .before .before .before .before .before .before .if1 .left) in let hold = pivots-hold _ (ap (λ p. passes (pivotsRefusal p)) (sym (c .before .before .before .before .before .before .before .before .before .before .before .before .factor .ensures .0)) ∙ q) in let inv = sym (c .before .before .before .before .before .before .before .before .inverse-of-factor .ensures ∙ ap (λ z. inverseFrom z (c .before .before .before .before .before .before .before .before .before .before .before .before .before .before .before .before .before .args .k)) (c .before .before .before .before .before .before .before .before .before .before .before .before .factor .ensures .1 ∙ ap (λ p. factorOf (c .before .before .before .before .before .before .before .before .before .before .before .before .before .before .before .before .before .args .columns .now) (c .before .before .before .before .before .before .before .before .before .before .before .before .before .before .before .before .before .args .n) (rowsMade (c .before .before .before .before .before .before .before .before .before .before .before .before .before .before .before .before .before .args .k) p)) hold)) in let f = ap passes (sym (c .before .before .before .before .before .before .before .of-inverse .ensures)) ∙ eq-eqb _ _ (c .before .before .before .before .before .if2 .left) in let s = by-normal (c .before .before .before .before .before .before .before .before .before .before .before .before .before .before .before .before .before .args .columns .now) (c .before .before .before .before .before .before .before .before .before .before .before .before .before .before .before .before .before .args .n) (c .before .before .before .before .before .before .before .before .before .before .before .before .before .before .before .before .before .args .k) (c .before .before .before .before .before .before .before .before .before .before .before .before .before .before .before .before .before .args .d) (c .before .before .before .before .before .before .before .before .before .before .before .before .before .before .before .before .before .args .alternative) (c .before .before .before .before .before .before .before .before .before .before .before .before .before .before .before .before .before .args .choice) (length (c .before .before .before .before .before .before .before .before .before .before .before .before .before .before .before .before .before .args .matrix .now)) (length (c .before .before .before .before .before .before .before .before .before .before .before .before .before .before .before .before .before .args .parts .now)) _ hold inv f (le-ltb (c .before .before .before .before .before .before .before .before .before .before .before .before .before .before .before .before .before .args .n) 3 (c .before .before .before .if3 .left)) (sym (c .before .before .wants-exact .ensures) ∙ not-true _ (c .before .if4 .taken)) in (c .normal .ensures ∙ rw (c .before .before .before .before .new .ensures) (sym (s .0)), (untouched _ (2 * ((c .before .before .before .before .before .before .before .before .before .before .before .before .before .before .before .before .before .args .n) * (c .before .before .before .before .before .before .before .before .before .before .before .before .before .before .before .before .before .args .n))) (c .before .before .before .before .before .before .before .before .before .before .before .before .before .before .before .before .before .args .matrix .now) (s .1), untouched _ 8004 (c .before .before .before .before .before .before .before .before .before .before .before .before .before .before .before .before .before .args .parts .now) (s .1)))
+returns-4 c =
+    let args = c .before .before .before .before .before .before .before .before .before .before .before .before .before .before .before .before .before .args in
+    let factor = c .before .before .before .before .before .before .before .before .before .before .before .before .factor in
+    let of-pivots = c .before .before .before .before .before .before .before .before .before .before .before .of-pivots in
+    let if1 = c .before .before .before .before .before .before .before .before .before .if1 in
+    let inverse-of-factor = c .before .before .before .before .before .before .before .before .inverse-of-factor in
+    let of-inverse = c .before .before .before .before .before .before .before .of-inverse in
+    let if2 = c .before .before .before .before .before .if2 in
+    let new = c .before .before .before .before .new in
+    let if3 = c .before .before .before .if3 in
+    let q = ap passes (sym (of-pivots .ensures)) ∙ eq-eqb _ _ (if1 .left) in
+    let hold = pivots-hold _ (ap (λ p. passes (pivotsRefusal p)) (sym (factor .ensures .0)) ∙ q) in
+    let inv = sym (inverse-of-factor .ensures ∙ ap (λ z. inverseFrom z (args .k)) (factor .ensures .1 ∙ ap (λ p. factorOf (args .columns .now) (args .n) (rowsMade (args .k) p)) hold)) in
+    let f = ap passes (sym (of-inverse .ensures)) ∙ eq-eqb _ _ (if2 .left) in
+    let s = by-normal (args .columns .now) (args .n) (args .k) (args .d) (args .alternative) (args .choice) (length (args .matrix .now)) (length (args .parts .now)) _ hold inv f (le-ltb (args .n) 3 (if3 .left)) (sym (c .before .before .wants-exact .ensures) ∙ not-true _ (c .before .if4 .taken)) in
+    (c .normal .ensures ∙ rw (new .ensures) (sym (s .0)), (untouched _ (2 * ((args .n) * (args .n))) (args .matrix .now) (s .1), untouched _ 8004 (args .parts .now) (s .1)))
 
 of-rooms-requires : tie.Need-of-rooms-requires
 of-rooms-requires c κs = search needs
@@ -79,22 +125,58 @@ refused-requires-3 : tie.Need-refused-requires-3
 refused-requires-3 c κs = search needs
 
 returns-5 : tie.Need-returns-5
-returns-5 c = let q = ap passes (sym (c .before .before .before .before .before .before .before .before .before .before .before .before .before .before .of-pivots .ensures)) ∙ eq-eqb _ _ (c .before .before .before .before .before .before .before .before .before .before .before .before .if1 .left) in let hold = pivots-hold _ (ap (λ p. passes (pivotsRefusal p)) (sym (c .before .before .before .before .before .before .before .before .before .before .before .before .before .before .before .factor .ensures .0)) ∙ q) in let inv = sym (c .before .before .before .before .before .before .before .before .before .before .before .inverse-of-factor .ensures ∙ ap (λ z. inverseFrom z (c .before .before .before .before .before .before .before .before .before .before .before .before .before .before .before .before .before .before .before .before .args .k)) (c .before .before .before .before .before .before .before .before .before .before .before .before .before .before .before .factor .ensures .1 ∙ ap (λ p. factorOf (c .before .before .before .before .before .before .before .before .before .before .before .before .before .before .before .before .before .before .before .before .args .columns .now) (c .before .before .before .before .before .before .before .before .before .before .before .before .before .before .before .before .before .before .before .before .args .n) (rowsMade (c .before .before .before .before .before .before .before .before .before .before .before .before .before .before .before .before .before .before .before .before .args .k) p)) hold)) in let f = ap passes (sym (c .before .before .before .before .before .before .before .before .before .before .of-inverse .ensures)) ∙ eq-eqb _ _ (c .before .before .before .before .before .before .before .before .if2 .left) in let s = no-room (c .before .before .before .before .before .before .before .before .before .before .before .before .before .before .before .before .before .before .before .before .args .columns .now) (c .before .before .before .before .before .before .before .before .before .before .before .before .before .before .before .before .before .before .before .before .args .n) (c .before .before .before .before .before .before .before .before .before .before .before .before .before .before .before .before .before .before .before .before .args .k) (c .before .before .before .before .before .before .before .before .before .before .before .before .before .before .before .before .before .before .before .before .args .d) (c .before .before .before .before .before .before .before .before .before .before .before .before .before .before .before .before .before .before .before .before .args .alternative) (c .before .before .before .before .before .before .before .before .before .before .before .before .before .before .before .before .before .before .before .before .args .choice) (length (c .before .before .before .before .before .before .before .before .before .before .before .before .before .before .before .before .before .before .before .before .args .matrix .now)) (length (c .before .before .before .before .before .before .before .before .before .before .before .before .before .before .before .before .before .before .before .before .args .parts .now)) _ hold inv f (le-ltb (c .before .before .before .before .before .before .before .before .before .before .before .before .before .before .before .before .before .before .before .before .args .n) 3 (c .before .before .before .before .before .before .if3 .left)) (sym (c .before .before .before .before .before .wants-exact .ensures) ∙ not-false _ (c .before .before .before .before .if4 .left)) (ap passes (sym (c .before .before .before .of-rooms .ensures)) ∙ ne-eqb _ _ (c .before .if5 .taken)) in (c .refused3 .ensures ∙ ap refusedOf (c .before .before .before .of-rooms .ensures) ∙ sym (s .0), (untouched _ (2 * ((c .before .before .before .before .before .before .before .before .before .before .before .before .before .before .before .before .before .before .before .before .args .n) * (c .before .before .before .before .before .before .before .before .before .before .before .before .before .before .before .before .before .before .before .before .args .n))) (c .before .before .before .before .before .before .before .before .before .before .before .before .before .before .before .before .before .before .before .before .args .matrix .now) (s .1), untouched _ 8004 (c .before .before .before .before .before .before .before .before .before .before .before .before .before .before .before .before .before .before .before .before .args .parts .now) (s .1)))
+returns-5 c =
+    let args = c .before .before .before .before .before .before .before .before .before .before .before .before .before .before .before .before .before .before .before .before .args in
+    let factor = c .before .before .before .before .before .before .before .before .before .before .before .before .before .before .before .factor in
+    let of-pivots = c .before .before .before .before .before .before .before .before .before .before .before .before .before .before .of-pivots in
+    let if1 = c .before .before .before .before .before .before .before .before .before .before .before .before .if1 in
+    let inverse-of-factor = c .before .before .before .before .before .before .before .before .before .before .before .inverse-of-factor in
+    let of-inverse = c .before .before .before .before .before .before .before .before .before .before .of-inverse in
+    let if2 = c .before .before .before .before .before .before .before .before .if2 in
+    let if3 = c .before .before .before .before .before .before .if3 in
+    let wants-exact = c .before .before .before .before .before .wants-exact in
+    let if4 = c .before .before .before .before .if4 in
+    let of-rooms = c .before .before .before .of-rooms in
+    let q = ap passes (sym (of-pivots .ensures)) ∙ eq-eqb _ _ (if1 .left) in
+    let hold = pivots-hold _ (ap (λ p. passes (pivotsRefusal p)) (sym (factor .ensures .0)) ∙ q) in
+    let inv = sym (inverse-of-factor .ensures ∙ ap (λ z. inverseFrom z (args .k)) (factor .ensures .1 ∙ ap (λ p. factorOf (args .columns .now) (args .n) (rowsMade (args .k) p)) hold)) in
+    let f = ap passes (sym (of-inverse .ensures)) ∙ eq-eqb _ _ (if2 .left) in
+    let s = no-room (args .columns .now) (args .n) (args .k) (args .d) (args .alternative) (args .choice) (length (args .matrix .now)) (length (args .parts .now)) _ hold inv f (le-ltb (args .n) 3 (if3 .left)) (sym (wants-exact .ensures) ∙ not-false _ (if4 .left)) (ap passes (sym (of-rooms .ensures)) ∙ ne-eqb _ _ (c .before .if5 .taken)) in
+    (c .refused3 .ensures ∙ ap refusedOf (of-rooms .ensures) ∙ sym (s .0), (untouched _ (2 * ((args .n) * (args .n))) (args .matrix .now) (s .1), untouched _ 8004 (args .parts .now) (s .1)))
 
 exact-requires : tie.Need-exact-requires
-exact-requires c κs = let r = rooms-fit (c .before .before .before .before .before .before .before .before .before .before .before .before .before .before .before .before .before .before .before .before .before .args .n) (length (c .before .before .before .before .before .before .before .before .before .before .before .before .before .before .before .before .before .before .before .before .before .args .matrix .now)) (length (c .before .before .before .before .before .before .before .before .before .before .before .before .before .before .before .before .before .before .before .before .before .args .parts .now)) (ap passes (sym (c .before .before .before .before .of-rooms .ensures)) ∙ eq-eqb _ _ (c .before .before .if5 .left)) in (omega arith, c .before .before .before .before .before .before .before .before .before .before .before .before .before .before .before .before .before .before .before .before .before .pre .0, c .before .before .before .before .before .before .before .before .before .before .before .before .before .before .before .before .before .before .before .before .before .pre .1, c .before .before .before .before .before .before .before .before .before .before .before .before .before .before .before .before .before .before .before .before .before .pre .2, c .before .before .before .before .before .before .before .before .before .before .before .before .before .before .before .before .before .before .before .before .before .pre .3, c .before .before .before .before .before .before .before .before .before .before .before .before .before .before .before .before .before .before .before .before .before .pre .4, r .0, r .1)
+exact-requires c κs =
+    let args = c .before .before .before .before .before .before .before .before .before .before .before .before .before .before .before .before .before .before .before .before .before .args in
+    let pre = c .before .before .before .before .before .before .before .before .before .before .before .before .before .before .before .before .before .before .before .before .before .pre in
+    let of-rooms = c .before .before .before .before .of-rooms in
+    let r = rooms-fit (args .n) (length (args .matrix .now)) (length (args .parts .now)) (ap passes (sym (of-rooms .ensures)) ∙ eq-eqb _ _ (c .before .before .if5 .left)) in
+    (omega arith, pre .0, pre .1, pre .2, pre .3, pre .4, r .0, r .1)
 
 mul-square : tie.Need-mul-square
-mul-square c = record { fits = lt-of-le-of-lt (square-small (c .before .before .before .before .before .before .before .before .before .before .before .before .before .before .before .before .before .before .before .before .before .before .before .before .before .before .args .n) (c .before .before .before .before .before .before .before .before .before .before .before .before .before .before .before .before .before .before .before .before .before .before .before .before .before .before .pre .0)) (lit< tt) }
+mul-square c =
+    let args = c .before .before .before .before .before .before .before .before .before .before .before .before .before .before .before .before .before .before .before .before .before .before .before .before .before .before .args in
+    let pre = c .before .before .before .before .before .before .before .before .before .before .before .before .before .before .before .before .before .before .before .before .before .before .before .before .before .before .pre in
+    record { fits = lt-of-le-of-lt (square-small (args .n) (pre .0)) (lit< tt) }
 
 mul-clear : tie.Need-mul-clear
-mul-clear c = record { fits = lt-of-le-of-lt (mul-le-mul-left 2 (square-small (c .before .before .before .before .before .before .before .before .before .before .before .before .before .before .before .before .before .before .before .before .before .before .before .before .before .before .before .args .n) (c .before .before .before .before .before .before .before .before .before .before .before .before .before .before .before .before .before .before .before .before .before .before .before .before .before .before .before .pre .0))) (lit< tt) }
+mul-clear c =
+    let args = c .before .before .before .before .before .before .before .before .before .before .before .before .before .before .before .before .before .before .before .before .before .before .before .before .before .before .before .args in
+    let pre = c .before .before .before .before .before .before .before .before .before .before .before .before .before .before .before .before .before .before .before .before .before .before .before .before .before .before .before .pre in
+    record { fits = lt-of-le-of-lt (mul-le-mul-left 2 (square-small (args .n) (pre .0))) (lit< tt) }
 
 clear-requires : tie.Need-clear-requires
-clear-requires c κs = let r = rooms-fit (c .before .before .before .before .before .before .before .before .before .before .before .before .before .before .before .before .before .before .before .before .before .before .before .before .before .before .before .args .n) (length (c .before .before .before .before .before .before .before .before .before .before .before .before .before .before .before .before .before .before .before .before .before .before .before .before .before .before .before .args .matrix .now)) (length (c .before .before .before .before .before .before .before .before .before .before .before .before .before .before .before .before .before .before .before .before .before .before .before .before .before .before .before .args .parts .now)) (ap passes (sym (c .before .before .before .before .before .before .before .before .before .before .of-rooms .ensures)) ∙ eq-eqb _ _ (c .before .before .before .before .before .before .before .before .if5 .left)) in omega (arith, r .0)
+clear-requires c κs =
+    let args = c .before .before .before .before .before .before .before .before .before .before .before .before .before .before .before .before .before .before .before .before .before .before .before .before .before .before .before .args in
+    let of-rooms = c .before .before .before .before .before .before .before .before .before .before .of-rooms in
+    let if5 = c .before .before .before .before .before .before .before .before .if5 in
+    let r = rooms-fit (args .n) (length (args .matrix .now)) (length (args .parts .now)) (ap passes (sym (of-rooms .ensures)) ∙ eq-eqb _ _ (if5 .left)) in omega (arith, r .0)
 
 clear-requires-2 : tie.Need-clear-requires-2
-clear-requires-2 c κs = let r = rooms-fit (c .before .before .before .before .before .before .before .before .before .before .before .before .before .before .before .before .before .before .before .before .before .before .before .before .before .before .before .before .before .before .before .args .n) (length (c .before .before .before .before .before .before .before .before .before .before .before .before .before .before .before .before .before .before .before .before .before .before .before .before .before .before .before .before .before .before .before .args .matrix .now)) (length (c .before .before .before .before .before .before .before .before .before .before .before .before .before .before .before .before .before .before .before .before .before .before .before .before .before .before .before .before .before .before .before .args .parts .now)) (ap passes (sym (c .before .before .before .before .before .before .before .before .before .before .before .before .before .before .of-rooms .ensures)) ∙ eq-eqb _ _ (c .before .before .before .before .before .before .before .before .before .before .before .before .if5 .left)) in omega (arith, r .1)
+clear-requires-2 c κs =
+    let args = c .before .before .before .before .before .before .before .before .before .before .before .before .before .before .before .before .before .before .before .before .before .before .before .before .before .before .before .before .before .before .before .args in
+    let of-rooms = c .before .before .before .before .before .before .before .before .before .before .before .before .before .before .of-rooms in
+    let if5 = c .before .before .before .before .before .before .before .before .before .before .before .before .if5 in
+    let r = rooms-fit (args .n) (length (args .matrix .now)) (length (args .parts .now)) (ap passes (sym (of-rooms .ensures)) ∙ eq-eqb _ _ (if5 .left)) in omega (arith, r .1)
 
 same-length : tie.Need-same-length
 same-length c = search needs
@@ -103,7 +185,27 @@ same-length-2 : tie.Need-same-length-2
 same-length-2 c = search needs
 
 returns-6 : tie.Need-returns-6
-returns-6 c = let q = ap passes (sym (c .before .before .before .before .before .before .before .before .before .before .before .before .before .before .before .before .before .before .before .before .before .before .before .before .before .before .before .before .of-pivots .ensures)) ∙ eq-eqb _ _ (c .before .before .before .before .before .before .before .before .before .before .before .before .before .before .before .before .before .before .before .before .before .before .before .before .before .before .if1 .left) in let hold = pivots-hold _ (ap (λ p. passes (pivotsRefusal p)) (sym (c .before .before .before .before .before .before .before .before .before .before .before .before .before .before .before .before .before .before .before .before .before .before .before .before .before .before .before .before .before .factor .ensures .0)) ∙ q) in let inv = sym (c .before .before .before .before .before .before .before .before .before .before .before .before .before .before .before .before .before .before .before .before .before .before .before .before .before .inverse-of-factor .ensures ∙ ap (λ z. inverseFrom z (c .before .before .before .before .before .before .before .before .before .before .before .before .before .before .before .before .before .before .before .before .before .before .before .before .before .before .before .before .before .before .before .before .before .before .args .k)) (c .before .before .before .before .before .before .before .before .before .before .before .before .before .before .before .before .before .before .before .before .before .before .before .before .before .before .before .before .before .factor .ensures .1 ∙ ap (λ p. factorOf (c .before .before .before .before .before .before .before .before .before .before .before .before .before .before .before .before .before .before .before .before .before .before .before .before .before .before .before .before .before .before .before .before .before .before .args .columns .now) (c .before .before .before .before .before .before .before .before .before .before .before .before .before .before .before .before .before .before .before .before .before .before .before .before .before .before .before .before .before .before .before .before .before .before .args .n) (rowsMade (c .before .before .before .before .before .before .before .before .before .before .before .before .before .before .before .before .before .before .before .before .before .before .before .before .before .before .before .before .before .before .before .before .before .before .args .k) p)) hold)) in let f = ap passes (sym (c .before .before .before .before .before .before .before .before .before .before .before .before .before .before .before .before .before .before .before .before .before .before .before .before .of-inverse .ensures)) ∙ eq-eqb _ _ (c .before .before .before .before .before .before .before .before .before .before .before .before .before .before .before .before .before .before .before .before .before .before .if2 .left) in let s = by-exact (c .before .before .before .before .before .before .before .before .before .before .before .before .before .before .before .before .before .before .before .before .before .before .before .before .before .before .before .before .before .before .before .before .before .before .args .columns .now) (c .before .before .before .before .before .before .before .before .before .before .before .before .before .before .before .before .before .before .before .before .before .before .before .before .before .before .before .before .before .before .before .before .before .before .args .n) (c .before .before .before .before .before .before .before .before .before .before .before .before .before .before .before .before .before .before .before .before .before .before .before .before .before .before .before .before .before .before .before .before .before .before .args .k) (c .before .before .before .before .before .before .before .before .before .before .before .before .before .before .before .before .before .before .before .before .before .before .before .before .before .before .before .before .before .before .before .before .before .before .args .d) (c .before .before .before .before .before .before .before .before .before .before .before .before .before .before .before .before .before .before .before .before .before .before .before .before .before .before .before .before .before .before .before .before .before .before .args .alternative) (c .before .before .before .before .before .before .before .before .before .before .before .before .before .before .before .before .before .before .before .before .before .before .before .before .before .before .before .before .before .before .before .before .before .before .args .choice) (length (c .before .before .before .before .before .before .before .before .before .before .before .before .before .before .before .before .before .before .before .before .before .before .before .before .before .before .before .before .before .before .before .before .before .before .args .matrix .now)) (length (c .before .before .before .before .before .before .before .before .before .before .before .before .before .before .before .before .before .before .before .before .before .before .before .before .before .before .before .before .before .before .before .before .before .before .args .parts .now)) _ hold inv f (le-ltb (c .before .before .before .before .before .before .before .before .before .before .before .before .before .before .before .before .before .before .before .before .before .before .before .before .before .before .before .before .before .before .before .before .before .before .args .n) 3 (c .before .before .before .before .before .before .before .before .before .before .before .before .before .before .before .before .before .before .before .before .if3 .left)) (sym (c .before .before .before .before .before .before .before .before .before .before .before .before .before .before .before .before .before .before .before .wants-exact .ensures) ∙ not-false _ (c .before .before .before .before .before .before .before .before .before .before .before .before .before .before .before .before .before .before .if4 .left)) (ap passes (sym (c .before .before .before .before .before .before .before .before .before .before .before .before .before .before .before .before .before .of-rooms .ensures)) ∙ eq-eqb _ _ (c .before .before .before .before .before .before .before .before .before .before .before .before .before .before .before .if5 .left)) in (c .before .before .before .before .before .before .before .before .before .before .before .before .exact .ensures .0 ∙ sym (s .0), (wiped _ (2 * (c .before .before .before .before .before .before .before .before .before .before .before .before .before .before .before .before .before .before .before .before .before .before .before .before .before .before .before .before .before .before .before .before .before .before .args .n * c .before .before .before .before .before .before .before .before .before .before .before .before .before .before .before .before .before .before .before .before .before .before .before .before .before .before .before .before .before .before .before .before .before .before .args .n)) (c .before .before .before .before .before .before .before .before .before .before .before .before .before .before .before .before .before .before .before .before .before .before .before .before .before .before .before .before .before .before .before .before .before .before .args .matrix .now) (c .before .before .before .before .before .before .before .before .before .before .before .before .exact .last .1 .1 .1 .1 .1 .1 .0) _ (s .1) (c .before .before .before .before .before .before .clear .ensures) (c .before .before .before .before .before .before .before .before .before .before .before .before .exact .ensures .1 .0), wiped _ 8004 (c .before .before .before .before .before .before .before .before .before .before .before .before .before .before .before .before .before .before .before .before .before .before .before .before .before .before .before .before .before .before .before .before .before .before .args .parts .now) (c .before .before .before .before .before .before .before .before .before .before .before .before .exact .last .1 .1 .1 .1 .1 .1 .1 .0) _ (s .1) (c .before .before .clear2 .ensures) (c .before .before .before .before .before .before .before .before .before .before .before .before .exact .ensures .1 .1)))
+returns-6 c =
+    let args = c .before .before .before .before .before .before .before .before .before .before .before .before .before .before .before .before .before .before .before .before .before .before .before .before .before .before .before .before .before .before .before .before .before .before .args in
+    let factor = c .before .before .before .before .before .before .before .before .before .before .before .before .before .before .before .before .before .before .before .before .before .before .before .before .before .before .before .before .before .factor in
+    let of-pivots = c .before .before .before .before .before .before .before .before .before .before .before .before .before .before .before .before .before .before .before .before .before .before .before .before .before .before .before .before .of-pivots in
+    let if1 = c .before .before .before .before .before .before .before .before .before .before .before .before .before .before .before .before .before .before .before .before .before .before .before .before .before .before .if1 in
+    let inverse-of-factor = c .before .before .before .before .before .before .before .before .before .before .before .before .before .before .before .before .before .before .before .before .before .before .before .before .before .inverse-of-factor in
+    let of-inverse = c .before .before .before .before .before .before .before .before .before .before .before .before .before .before .before .before .before .before .before .before .before .before .before .before .of-inverse in
+    let if2 = c .before .before .before .before .before .before .before .before .before .before .before .before .before .before .before .before .before .before .before .before .before .before .if2 in
+    let if3 = c .before .before .before .before .before .before .before .before .before .before .before .before .before .before .before .before .before .before .before .before .if3 in
+    let wants-exact = c .before .before .before .before .before .before .before .before .before .before .before .before .before .before .before .before .before .before .before .wants-exact in
+    let if4 = c .before .before .before .before .before .before .before .before .before .before .before .before .before .before .before .before .before .before .if4 in
+    let of-rooms = c .before .before .before .before .before .before .before .before .before .before .before .before .before .before .before .before .before .of-rooms in
+    let if5 = c .before .before .before .before .before .before .before .before .before .before .before .before .before .before .before .if5 in
+    let exact = c .before .before .before .before .before .before .before .before .before .before .before .before .exact in
+    let clear = c .before .before .before .before .before .before .clear in
+    let q = ap passes (sym (of-pivots .ensures)) ∙ eq-eqb _ _ (if1 .left) in
+    let hold = pivots-hold _ (ap (λ p. passes (pivotsRefusal p)) (sym (factor .ensures .0)) ∙ q) in
+    let inv = sym (inverse-of-factor .ensures ∙ ap (λ z. inverseFrom z (args .k)) (factor .ensures .1 ∙ ap (λ p. factorOf (args .columns .now) (args .n) (rowsMade (args .k) p)) hold)) in
+    let f = ap passes (sym (of-inverse .ensures)) ∙ eq-eqb _ _ (if2 .left) in
+    let s = by-exact (args .columns .now) (args .n) (args .k) (args .d) (args .alternative) (args .choice) (length (args .matrix .now)) (length (args .parts .now)) _ hold inv f (le-ltb (args .n) 3 (if3 .left)) (sym (wants-exact .ensures) ∙ not-false _ (if4 .left)) (ap passes (sym (of-rooms .ensures)) ∙ eq-eqb _ _ (if5 .left)) in
+    (exact .ensures .0 ∙ sym (s .0), (wiped _ (2 * (args .n * args .n)) (args .matrix .now) (exact .last .1 .1 .1 .1 .1 .1 .0) _ (s .1) (clear .ensures) (exact .ensures .1 .0), wiped _ 8004 (args .parts .now) (exact .last .1 .1 .1 .1 .1 .1 .1 .0) _ (s .1) (c .before .before .clear2 .ensures) (exact .ensures .1 .1)))
 
 pub test-design-spec : {M : Type 1} → statement M
 test-design-spec =

@@ -37,10 +37,18 @@ slice-reshare-prefix-bands : tie.Need-slice-reshare-prefix-bands
 slice-reshare-prefix-bands c = search needs
 
 slice-aggregate-bands : tie.Need-slice-aggregate-bands
-slice-aggregate-bands c = let l : length (c .before .before .before .tridiagonalize .last .0) ≡ c .before .before .before .before .before .before .before .before .before .args .n * c .before .before .before .before .before .before .before .before .before .args .n = omega (arith, c .before .before .before .tridiagonalize .kept .0, length-take (c .before .before .before .before .before .before .before .before .before .args .n * c .before .before .before .before .before .before .before .before .before .args .n) (c .before .before .before .before .before .before .before .before .before .args .room .now)) in simp length-take (simp length-append (omega arith))
+slice-aggregate-bands c =
+    let args = c .before .before .before .before .before .before .before .before .before .args in
+    let tridiagonalize = c .before .before .before .tridiagonalize in
+    let l : length (tridiagonalize .last .0) ≡ args .n * args .n = omega (arith, tridiagonalize .kept .0, length-take (args .n * args .n) (args .room .now)) in
+    simp length-take (simp length-append (omega arith))
 
 bands-requires : tie.Need-bands-requires
-bands-requires c κs = let l : length (c .before .before .before .before .before .tridiagonalize .last .0) ≡ c .before .before .before .before .before .before .before .before .before .before .before .args .n * c .before .before .before .before .before .before .before .before .before .before .before .args .n = omega (arith, c .before .before .before .before .before .tridiagonalize .kept .0, length-take (c .before .before .before .before .before .before .before .before .before .before .before .args .n * c .before .before .before .before .before .before .before .before .before .before .before .args .n) (c .before .before .before .before .before .before .before .before .before .before .before .args .room .now)) in (simp length-take (simp length-append (omega arith)), omega arith, omega arith)
+bands-requires c κs =
+    let args = c .before .before .before .before .before .before .before .before .before .before .before .args in
+    let tridiagonalize = c .before .before .before .before .before .tridiagonalize in
+    let l : length (tridiagonalize .last .0) ≡ args .n * args .n = omega (arith, tridiagonalize .kept .0, length-take (args .n * args .n) (args .room .now)) in
+    (simp length-take (simp length-append (omega arith)), omega arith, omega arith)
 
 new-requires : tie.Need-new-requires
 new-requires c κs = search needs
@@ -61,10 +69,17 @@ order-requires : tie.Need-order-requires
 order-requires c κs = search needs
 
 sub-keep : tie.Need-sub-keep
-sub-keep c = omega (arith, c .before .before .before .before .before .before .before .before .before .before .before .before .before .before .before .before .before .before .before .before .before .before .before .before .before .before .before .before .before .before .before .before .before .pre .2)
+sub-keep c =
+    let pre = c .before .before .before .before .before .before .before .before .before .before .before .before .before .before .before .before .before .before .before .before .before .before .before .before .before .before .before .before .before .before .before .before .before .pre in
+    omega (arith, pre .2)
 
 keep-requires : tie.Need-keep-requires
-keep-requires c κs = (omega (arith, c .before .before .before .before .order .kept .0, c .before .before .before .before .before .before .before .before .before .before .before .before .before .before .ql .kept .0, c .before .before .before .before .before .before .before .before .before .before .before .before .before .before .before .before .before .before .before .before .before .before .bands .kept .1 .1 .0, c .before .before .before .before .before .before .before .before .before .before .before .before .before .before .before .before .before .before .before .before .before .before .before .before .before .before .before .before .before .before .before .before .before .before .pre .4), omega (arith, c .before .before .before .before .before .before .before .before .before .before .before .before .before .before .before .before .before .before .before .before .before .before .before .before .before .before .before .before .before .before .before .before .before .before .pre .6))
+keep-requires c κs =
+    let pre = c .before .before .before .before .before .before .before .before .before .before .before .before .before .before .before .before .before .before .before .before .before .before .before .before .before .before .before .before .before .before .before .before .before .before .pre in
+    let bands = c .before .before .before .before .before .before .before .before .before .before .before .before .before .before .before .before .before .before .before .before .before .before .bands in
+    let ql = c .before .before .before .before .before .before .before .before .before .before .before .before .before .before .ql in
+    let order = c .before .before .before .before .order in
+    (omega (arith, order .kept .0, ql .kept .0, bands .kept .1 .1 .0, pre .4), omega (arith, pre .6))
 
 same-length : tie.Need-same-length
 same-length c = search needs
@@ -76,10 +91,26 @@ same-length-3 : tie.Need-same-length-3
 same-length-3 c = search needs
 
 returns : tie.Need-returns
-returns c = let l : length (c .before .before .before .before .before .before .before .before .before .before .before .before .before .before .before .before .before .before .before .before .before .before .tridiagonalize .last .0) ≡ c .before .before .before .before .before .before .before .before .before .before .before .before .before .before .before .before .before .before .before .before .before .before .before .before .before .before .before .before .args .n * c .before .before .before .before .before .before .before .before .before .before .before .before .before .before .before .before .before .before .before .before .before .before .before .before .before .before .before .before .args .n = omega (arith, c .before .before .before .before .before .before .before .before .before .before .before .before .before .before .before .before .before .before .before .before .before .before .tridiagonalize .kept .0, length-take (c .before .before .before .before .before .before .before .before .before .before .before .before .before .before .before .before .before .before .before .before .before .before .before .before .before .before .before .before .args .n * c .before .before .before .before .before .before .before .before .before .before .before .before .before .before .before .before .before .before .before .before .before .before .before .before .before .before .before .before .args .n) (c .before .before .before .before .before .before .before .before .before .before .before .before .before .before .before .before .before .before .before .before .before .before .before .before .before .before .before .before .args .room .now)) in let w = worked-is (c .before .before .before .before .before .before .before .before .before .before .before .before .before .before .before .before .before .before .before .before .before .before .before .before .before .before .before .before .args .n) (take (c .before .before .before .before .before .before .before .before .before .before .before .before .before .before .before .before .before .before .before .before .before .before .before .before .before .before .before .before .args .n * c .before .before .before .before .before .before .before .before .before .before .before .before .before .before .before .before .before .before .before .before .before .before .before .before .before .before .before .before .args .n) (c .before .before .before .before .before .before .before .before .before .before .before .before .before .before .before .before .before .before .before .before .before .before .before .before .before .before .before .before .args .room .now)) (c .before .before .before .before .before .before .before .before .before .before .before .before .before .before .before .before .before .before .before .before .before .before .tridiagonalize .last .0) _ (c .before .before .before .before .before .before .before .before .before .before .before .before .before .before .before .before .before .before .before .before .before .before .before .before .before .before .before .before .args .d .now) (c .before .before .before .before .before .before .before .before .before .before .before .before .before .before .before .before .before .before .before .before .before .before .before .before .before .before .before .before .args .e .now) (c .before .before .before .before .before .before .before .before .before .before .before .before .before .before .before .before .bands .last .1 .1 .0) (c .before .before .before .before .before .before .before .before .before .before .before .before .before .before .before .before .bands .last .1 .1 .1 .0) (c .before .before .before .before .before .before .before .before .before .new .result) l (c .before .before .before .before .before .before .before .before .before .before .before .before .before .before .before .before .before .before .before .before .before .before .tridiagonalize .ensures) (c .before .before .before .before .before .before .before .before .before .before .before .before .before .before .before .before .before .before .before .before .before .before .before .before .before .before .before .before .pre .4) (c .before .before .before .before .before .before .before .before .before .before .before .before .before .before .before .before .before .before .before .before .before .before .before .before .before .before .before .before .pre .5) (c .before .before .before .before .before .before .before .before .before .before .before .before .before .before .before .before .bands .ensures .0) (c .before .before .before .before .before .before .before .before .before .before .before .before .before .before .before .before .bands .ensures .1) (c .before .before .before .before .before .before .before .before .before .new .ensures) in let v : c .before .before .before .before .before .before .before .before .ql .last .0 ≡ numbersOf (c .before .before .before .before .before .before .before .before .before .before .before .before .before .before .before .before .before .before .before .before .before .before .before .before .before .before .before .before .args .n) (take (c .before .before .before .before .before .before .before .before .before .before .before .before .before .before .before .before .before .before .before .before .before .before .before .before .before .before .before .before .args .n * c .before .before .before .before .before .before .before .before .before .before .before .before .before .before .before .before .before .before .before .before .before .before .before .before .before .before .before .before .args .n) (c .before .before .before .before .before .before .before .before .before .before .before .before .before .before .before .before .before .before .before .before .before .before .before .before .before .before .before .before .args .room .now)) = c .before .before .before .before .before .before .before .before .ql .ensures .1 .0 ∙ ap (λ s. s .diagonal) w in let f = ap firstBad (sym v) ∙ sym (c .before .before .first-bad .ensures) in let z = number-bad (c .before .before .before .before .before .before .before .before .before .before .before .before .before .before .before .before .before .before .before .before .before .before .before .before .before .before .before .before .args .n) (c .before .before .before .before .before .before .before .before .before .before .before .before .before .before .before .before .before .before .before .before .before .before .before .before .before .before .before .before .args .k) (take (c .before .before .before .before .before .before .before .before .before .before .before .before .before .before .before .before .before .before .before .before .before .before .before .before .before .before .before .before .args .n * c .before .before .before .before .before .before .before .before .before .before .before .before .before .before .before .before .before .before .before .before .before .before .before .before .before .before .before .before .args .n) (c .before .before .before .before .before .before .before .before .before .before .before .before .before .before .before .before .before .before .before .before .before .before .before .before .before .before .before .before .args .room .now)) _ (f ∙ c .enum-told .given .1) in (sym (z .0), (rw (c .before .before .before .before .before .before .before .before .before .before .before .before .before .before .before .before .before .before .before .before .before .before .tridiagonalize .ensures) refl, rw (z .1) refl))
+returns c =
+    let args = c .before .before .before .before .before .before .before .before .before .before .before .before .before .before .before .before .before .before .before .before .before .before .before .before .before .before .before .before .args in
+    let pre = c .before .before .before .before .before .before .before .before .before .before .before .before .before .before .before .before .before .before .before .before .before .before .before .before .before .before .before .before .pre in
+    let tridiagonalize = c .before .before .before .before .before .before .before .before .before .before .before .before .before .before .before .before .before .before .before .before .before .before .tridiagonalize in
+    let bands = c .before .before .before .before .before .before .before .before .before .before .before .before .before .before .before .before .bands in
+    let new = c .before .before .before .before .before .before .before .before .before .new in
+    let ql = c .before .before .before .before .before .before .before .before .ql in
+    let l : length (tridiagonalize .last .0) ≡ args .n * args .n = omega (arith, tridiagonalize .kept .0, length-take (args .n * args .n) (args .room .now)) in
+    let w = worked-is (args .n) (take (args .n * args .n) (args .room .now)) (tridiagonalize .last .0) _ (args .d .now) (args .e .now) (bands .last .1 .1 .0) (bands .last .1 .1 .1 .0) (new .result) l (tridiagonalize .ensures) (pre .4) (pre .5) (bands .ensures .0) (bands .ensures .1) (new .ensures) in
+    let v : ql .last .0 ≡ numbersOf (args .n) (take (args .n * args .n) (args .room .now)) = ql .ensures .1 .0 ∙ ap (λ s. s .diagonal) w in
+    let f = ap firstBad (sym v) ∙ sym (c .before .before .first-bad .ensures) in
+    let z = number-bad (args .n) (args .k) (take (args .n * args .n) (args .room .now)) _ (f ∙ c .enum-told .given .1) in
+    (sym (z .0), (rw (tridiagonalize .ensures) refl, rw (z .1) refl))
 
 same-length-4 : tie.Need-same-length-4
-same-length-4 c = simp (length-append, length-drop) (omega (arith, c .before .before .before .before .before .before .before .before .before .before .before .before .before .before .before .before .before .before .before .before .before .before .before .before .before .before .before .before .before .before .before .tridiagonalize .kept .0, length-take (c .before .before .before .before .before .before .before .before .before .before .before .before .before .before .before .before .before .before .before .before .before .before .before .before .before .before .before .before .before .before .before .before .before .before .before .before .before .args .n * c .before .before .before .before .before .before .before .before .before .before .before .before .before .before .before .before .before .before .before .before .before .before .before .before .before .before .before .before .before .before .before .before .before .before .before .before .before .args .n) (c .before .before .before .before .before .before .before .before .before .before .before .before .before .before .before .before .before .before .before .before .before .before .before .before .before .before .before .before .before .before .before .before .before .before .before .before .before .args .room .now), c .before .before .before .before .before .before .before .before .before .before .before .before .before .before .before .before .before .before .before .before .before .before .before .before .before .before .before .before .before .before .before .before .before .before .before .before .before .pre .0))
+same-length-4 c =
+    let args = c .before .before .before .before .before .before .before .before .before .before .before .before .before .before .before .before .before .before .before .before .before .before .before .before .before .before .before .before .before .before .before .before .before .before .before .before .before .args in
+    let pre = c .before .before .before .before .before .before .before .before .before .before .before .before .before .before .before .before .before .before .before .before .before .before .before .before .before .before .before .before .before .before .before .before .before .before .before .before .before .pre in
+    let tridiagonalize = c .before .before .before .before .before .before .before .before .before .before .before .before .before .before .before .before .before .before .before .before .before .before .before .before .before .before .before .before .before .before .before .tridiagonalize in
+    simp (length-append, length-drop) (omega (arith, tridiagonalize .kept .0, length-take (args .n * args .n) (args .room .now), pre .0))
 
 same-length-5 : tie.Need-same-length-5
 same-length-5 c = search needs
@@ -91,7 +122,23 @@ same-length-7 : tie.Need-same-length-7
 same-length-7 c = search needs
 
 returns-2 : tie.Need-returns-2
-returns-2 c = let l : length (c .before .before .before .before .before .before .before .before .before .before .before .before .before .before .before .before .before .before .before .before .before .before .before .before .before .before .before .before .before .before .before .tridiagonalize .last .0) ≡ c .before .before .before .before .before .before .before .before .before .before .before .before .before .before .before .before .before .before .before .before .before .before .before .before .before .before .before .before .before .before .before .before .before .before .before .before .before .args .n * c .before .before .before .before .before .before .before .before .before .before .before .before .before .before .before .before .before .before .before .before .before .before .before .before .before .before .before .before .before .before .before .before .before .before .before .before .before .args .n = omega (arith, c .before .before .before .before .before .before .before .before .before .before .before .before .before .before .before .before .before .before .before .before .before .before .before .before .before .before .before .before .before .before .before .tridiagonalize .kept .0, length-take (c .before .before .before .before .before .before .before .before .before .before .before .before .before .before .before .before .before .before .before .before .before .before .before .before .before .before .before .before .before .before .before .before .before .before .before .before .before .args .n * c .before .before .before .before .before .before .before .before .before .before .before .before .before .before .before .before .before .before .before .before .before .before .before .before .before .before .before .before .before .before .before .before .before .before .before .before .before .args .n) (c .before .before .before .before .before .before .before .before .before .before .before .before .before .before .before .before .before .before .before .before .before .before .before .before .before .before .before .before .before .before .before .before .before .before .before .before .before .args .room .now), c .before .before .before .before .before .before .before .before .before .before .before .before .before .before .before .before .before .before .before .before .before .before .before .before .before .before .before .before .before .before .before .before .before .before .before .before .before .pre .0) in let w = worked-is (c .before .before .before .before .before .before .before .before .before .before .before .before .before .before .before .before .before .before .before .before .before .before .before .before .before .before .before .before .before .before .before .before .before .before .before .before .before .args .n) (take (c .before .before .before .before .before .before .before .before .before .before .before .before .before .before .before .before .before .before .before .before .before .before .before .before .before .before .before .before .before .before .before .before .before .before .before .before .before .args .n * c .before .before .before .before .before .before .before .before .before .before .before .before .before .before .before .before .before .before .before .before .before .before .before .before .before .before .before .before .before .before .before .before .before .before .before .before .before .args .n) (c .before .before .before .before .before .before .before .before .before .before .before .before .before .before .before .before .before .before .before .before .before .before .before .before .before .before .before .before .before .before .before .before .before .before .before .before .before .args .room .now)) (c .before .before .before .before .before .before .before .before .before .before .before .before .before .before .before .before .before .before .before .before .before .before .before .before .before .before .before .before .before .before .before .tridiagonalize .last .0) _ (c .before .before .before .before .before .before .before .before .before .before .before .before .before .before .before .before .before .before .before .before .before .before .before .before .before .before .before .before .before .before .before .before .before .before .before .before .before .args .d .now) (c .before .before .before .before .before .before .before .before .before .before .before .before .before .before .before .before .before .before .before .before .before .before .before .before .before .before .before .before .before .before .before .before .before .before .before .before .before .args .e .now) (c .before .before .before .before .before .before .before .before .before .before .before .before .before .before .before .before .before .before .before .before .before .before .before .before .before .bands .last .1 .1 .0) (c .before .before .before .before .before .before .before .before .before .before .before .before .before .before .before .before .before .before .before .before .before .before .before .before .before .bands .last .1 .1 .1 .0) (c .before .before .before .before .before .before .before .before .before .before .before .before .before .before .before .before .before .before .new .result) l (c .before .before .before .before .before .before .before .before .before .before .before .before .before .before .before .before .before .before .before .before .before .before .before .before .before .before .before .before .before .before .before .tridiagonalize .ensures) (c .before .before .before .before .before .before .before .before .before .before .before .before .before .before .before .before .before .before .before .before .before .before .before .before .before .before .before .before .before .before .before .before .before .before .before .before .before .pre .4) (c .before .before .before .before .before .before .before .before .before .before .before .before .before .before .before .before .before .before .before .before .before .before .before .before .before .before .before .before .before .before .before .before .before .before .before .before .before .pre .5) (c .before .before .before .before .before .before .before .before .before .before .before .before .before .before .before .before .before .before .before .before .before .before .before .before .before .bands .ensures .0) (c .before .before .before .before .before .before .before .before .before .before .before .before .before .before .before .before .before .before .before .before .before .before .before .before .before .bands .ensures .1) (c .before .before .before .before .before .before .before .before .before .before .before .before .before .before .before .before .before .before .new .ensures) in let v : c .before .before .before .before .before .before .before .before .before .before .before .before .before .before .before .before .before .ql .last .0 ≡ numbersOf (c .before .before .before .before .before .before .before .before .before .before .before .before .before .before .before .before .before .before .before .before .before .before .before .before .before .before .before .before .before .before .before .before .before .before .before .before .before .args .n) (take (c .before .before .before .before .before .before .before .before .before .before .before .before .before .before .before .before .before .before .before .before .before .before .before .before .before .before .before .before .before .before .before .before .before .before .before .before .before .args .n * c .before .before .before .before .before .before .before .before .before .before .before .before .before .before .before .before .before .before .before .before .before .before .before .before .before .before .before .before .before .before .before .before .before .before .before .before .before .args .n) (c .before .before .before .before .before .before .before .before .before .before .before .before .before .before .before .before .before .before .before .before .before .before .before .before .before .before .before .before .before .before .before .before .before .before .before .before .before .args .room .now)) = c .before .before .before .before .before .before .before .before .before .before .before .before .before .before .before .before .before .ql .ensures .1 .0 ∙ ap (λ s. s .diagonal) w in let f = ap firstBad (sym v) ∙ sym (c .before .before .before .before .before .before .before .before .before .before .before .first-bad .ensures) in let z = numbers-good (c .before .before .before .before .before .before .before .before .before .before .before .before .before .before .before .before .before .before .before .before .before .before .before .before .before .before .before .before .before .before .before .before .before .before .before .before .before .args .n) (c .before .before .before .before .before .before .before .before .before .before .before .before .before .before .before .before .before .before .before .before .before .before .before .before .before .before .before .before .before .before .before .before .before .before .before .before .before .args .k) (take (c .before .before .before .before .before .before .before .before .before .before .before .before .before .before .before .before .before .before .before .before .before .before .before .before .before .before .before .before .before .before .before .before .before .before .before .before .before .args .n * c .before .before .before .before .before .before .before .before .before .before .before .before .before .before .before .before .before .before .before .before .before .before .before .before .before .before .before .before .before .before .before .before .before .before .before .before .before .args .n) (c .before .before .before .before .before .before .before .before .before .before .before .before .before .before .before .before .before .before .before .before .before .before .before .before .before .before .before .before .before .before .before .before .before .before .before .before .before .args .room .now)) (c .before .before .before .before .before .before .before .order .last .0) (f ∙ c .before .before .before .before .before .before .before .before .before .enum-told2 .given .1) (c .before .before .before .before .before .before .before .order .ensures ∙ rw v) in (rw (z .0, c .before .before .keep .ensures .0, c .before .before .before .before .before .before .before .before .before .before .before .before .before .before .before .before .before .ql .ensures .0, w), (rw (c .before .before .before .before .before .before .before .before .before .before .before .before .before .before .before .before .before .before .before .before .before .before .before .before .before .before .before .before .before .before .before .tridiagonalize .ensures) refl, rw (z .1) (c .before .before .keep .ensures .1)))
+returns-2 c =
+    let args = c .before .before .before .before .before .before .before .before .before .before .before .before .before .before .before .before .before .before .before .before .before .before .before .before .before .before .before .before .before .before .before .before .before .before .before .before .before .args in
+    let pre = c .before .before .before .before .before .before .before .before .before .before .before .before .before .before .before .before .before .before .before .before .before .before .before .before .before .before .before .before .before .before .before .before .before .before .before .before .before .pre in
+    let tridiagonalize = c .before .before .before .before .before .before .before .before .before .before .before .before .before .before .before .before .before .before .before .before .before .before .before .before .before .before .before .before .before .before .before .tridiagonalize in
+    let bands = c .before .before .before .before .before .before .before .before .before .before .before .before .before .before .before .before .before .before .before .before .before .before .before .before .before .bands in
+    let new = c .before .before .before .before .before .before .before .before .before .before .before .before .before .before .before .before .before .before .new in
+    let ql = c .before .before .before .before .before .before .before .before .before .before .before .before .before .before .before .before .before .ql in
+    let first-bad = c .before .before .before .before .before .before .before .before .before .before .before .first-bad in
+    let enum-told2 = c .before .before .before .before .before .before .before .before .before .enum-told2 in
+    let order = c .before .before .before .before .before .before .before .order in
+    let keep = c .before .before .keep in
+    let l : length (tridiagonalize .last .0) ≡ args .n * args .n = omega (arith, tridiagonalize .kept .0, length-take (args .n * args .n) (args .room .now), pre .0) in
+    let w = worked-is (args .n) (take (args .n * args .n) (args .room .now)) (tridiagonalize .last .0) _ (args .d .now) (args .e .now) (bands .last .1 .1 .0) (bands .last .1 .1 .1 .0) (new .result) l (tridiagonalize .ensures) (pre .4) (pre .5) (bands .ensures .0) (bands .ensures .1) (new .ensures) in
+    let v : ql .last .0 ≡ numbersOf (args .n) (take (args .n * args .n) (args .room .now)) = ql .ensures .1 .0 ∙ ap (λ s. s .diagonal) w in
+    let f = ap firstBad (sym v) ∙ sym (first-bad .ensures) in
+    let z = numbers-good (args .n) (args .k) (take (args .n * args .n) (args .room .now)) (order .last .0) (f ∙ enum-told2 .given .1) (order .ensures ∙ rw v) in
+    (rw (z .0, keep .ensures .0, ql .ensures .0, w), (rw (tridiagonalize .ensures) refl, rw (z .1) (keep .ensures .1)))
 
 pub delivered-spec : {M : Type 1} → statement M
 delivered-spec =

@@ -40,13 +40,21 @@ slice-aggregate-delivered-2 : tie.Need-slice-aggregate-delivered-2
 slice-aggregate-delivered-2 c = simp (length-take, length-replicate) (omega arith)
 
 delivered-requires : tie.Need-delivered-requires
-delivered-requires c κs = let f : take (c .before .before .before .before .before .before .before .before .before .before .before .before .before .args .n * c .before .before .before .before .before .before .before .before .before .before .before .before .before .args .n) (c .before .before .before .before .before .before .before .before .mam .last .0) ≡ mamOf (c .before .before .before .before .before .before .before .before .before .before .before .before .before .args .columns .now) (c .before .before .before .before .before .before .before .before .before .before .before .before .before .args .inverse) (c .before .before .before .before .before .before .before .before .before .before .before .before .before .args .n) (c .before .before .before .before .before .before .before .before .before .before .before .before .before .args .k) = ap (take (c .before .before .before .before .before .before .before .before .before .before .before .before .before .args .n * c .before .before .before .before .before .before .before .before .before .before .before .before .before .args .n)) (c .before .before .before .before .before .before .before .before .mam .ensures .1) ∙ take-at (mamOf (c .before .before .before .before .before .before .before .before .before .before .before .before .before .args .columns .now) (c .before .before .before .before .before .before .before .before .before .before .before .before .before .args .inverse) (c .before .before .before .before .before .before .before .before .before .before .before .before .before .args .n) (c .before .before .before .before .before .before .before .before .before .before .before .before .before .args .k)) _ (c .before .before .before .before .before .before .before .before .before .before .before .before .before .args .n * c .before .before .before .before .before .before .before .before .before .before .before .before .before .args .n) (length-symmetric (c .before .before .before .before .before .before .before .before .before .before .before .before .before .args .n) (product (c .before .before .before .before .before .before .before .before .before .before .before .before .before .args .columns .now) (c .before .before .before .before .before .before .before .before .before .before .before .before .before .args .inverse) (c .before .before .before .before .before .before .before .before .before .before .before .before .before .args .n) (c .before .before .before .before .before .before .before .before .before .before .before .before .before .args .k))) in (omega (arith, c .before .before .before .before .before .before .before .before .mam .kept .0, c .before .before .before .before .before .before .before .before .before .before .before .before .before .pre .4), c .before .before .before .before .before .before .before .before .before .before .before .before .before .pre .0, c .before .before .before .before .before .before .before .before .before .before .before .before .before .pre .2, subst (λ (z : List Float). Symmetric (c .before .before .before .before .before .before .before .before .before .before .before .before .before .args .n) z) (sym f) (mam-symmetric (c .before .before .before .before .before .before .before .before .before .before .before .before .before .args .columns .now) (c .before .before .before .before .before .before .before .before .before .before .before .before .before .args .inverse) (c .before .before .before .before .before .before .before .before .before .before .before .before .before .args .n) (c .before .before .before .before .before .before .before .before .before .before .before .before .before .args .k)), simp (length-take, length-replicate) (omega (arith, c .before .before .before .before .before .before .before .before .before .before .before .before .before .pre .0)), simp (length-take, length-replicate) (omega (arith, c .before .before .before .before .before .before .before .before .before .before .before .before .before .pre .0)), c .before .before .before .before .before .before .before .before .before .before .before .before .before .pre .5)
+delivered-requires c κs =
+    let args = c .before .before .before .before .before .before .before .before .before .before .before .before .before .args in
+    let pre = c .before .before .before .before .before .before .before .before .before .before .before .before .before .pre in
+    let mam = c .before .before .before .before .before .before .before .before .mam in
+    let f : take (args .n * args .n) (mam .last .0) ≡ mamOf (args .columns .now) (args .inverse) (args .n) (args .k) = ap (take (args .n * args .n)) (mam .ensures .1) ∙ take-at (mamOf (args .columns .now) (args .inverse) (args .n) (args .k)) _ (args .n * args .n) (length-symmetric (args .n) (product (args .columns .now) (args .inverse) (args .n) (args .k))) in
+    (omega (arith, mam .kept .0, pre .4), pre .0, pre .2, subst (λ (z : List Float). Symmetric (args .n) z) (sym f) (mam-symmetric (args .columns .now) (args .inverse) (args .n) (args .k)), simp (length-take, length-replicate) (omega (arith, pre .0)), simp (length-take, length-replicate) (omega (arith, pre .0)), pre .5)
 
 same-length : tie.Need-same-length
 same-length c = search needs
 
 returns : tie.Need-returns
-returns c = let z = matrix-bad (c .before .before .before .before .before .before .before .before .before .args .columns .now) (c .before .before .before .before .before .before .before .before .before .args .inverse) (c .before .before .before .before .before .before .before .before .before .args .n) (c .before .before .before .before .before .before .before .before .before .args .k) _ (sym (c .before .before .before .before .mam .ensures .0) ∙ c .enum-told .given .1) in (sym (z .0), (rw (z .1) refl, rw (z .2) (c .before .before .before .before .mam .ensures .1)))
+returns c =
+    let args = c .before .before .before .before .before .before .before .before .before .args in
+    let mam = c .before .before .before .before .mam in
+    let z = matrix-bad (args .columns .now) (args .inverse) (args .n) (args .k) _ (sym (mam .ensures .0) ∙ c .enum-told .given .1) in (sym (z .0), (rw (z .1) refl, rw (z .2) (mam .ensures .1)))
 
 same-length-2 : tie.Need-same-length-2
 same-length-2 c = search needs
@@ -55,7 +63,15 @@ same-length-3 : tie.Need-same-length-3
 same-length-3 c = search needs
 
 returns-2 : tie.Need-returns-2
-returns-2 c = let f : take (c .before .before .before .before .before .before .before .before .before .before .before .before .before .before .before .before .before .before .before .before .args .n * c .before .before .before .before .before .before .before .before .before .before .before .before .before .before .before .before .before .before .before .before .args .n) (c .before .before .before .before .before .before .before .before .before .before .before .before .before .before .before .mam .last .0) ≡ mamOf (c .before .before .before .before .before .before .before .before .before .before .before .before .before .before .before .before .before .before .before .before .args .columns .now) (c .before .before .before .before .before .before .before .before .before .before .before .before .before .before .before .before .before .before .before .before .args .inverse) (c .before .before .before .before .before .before .before .before .before .before .before .before .before .before .before .before .before .before .before .before .args .n) (c .before .before .before .before .before .before .before .before .before .before .before .before .before .before .before .before .before .before .before .before .args .k) = ap (take (c .before .before .before .before .before .before .before .before .before .before .before .before .before .before .before .before .before .before .before .before .args .n * c .before .before .before .before .before .before .before .before .before .before .before .before .before .before .before .before .before .before .before .before .args .n)) (c .before .before .before .before .before .before .before .before .before .before .before .before .before .before .before .mam .ensures .1) ∙ take-at (mamOf (c .before .before .before .before .before .before .before .before .before .before .before .before .before .before .before .before .before .before .before .before .args .columns .now) (c .before .before .before .before .before .before .before .before .before .before .before .before .before .before .before .before .before .before .before .before .args .inverse) (c .before .before .before .before .before .before .before .before .before .before .before .before .before .before .before .before .before .before .before .before .args .n) (c .before .before .before .before .before .before .before .before .before .before .before .before .before .before .before .before .before .before .before .before .args .k)) _ (c .before .before .before .before .before .before .before .before .before .before .before .before .before .before .before .before .before .before .before .before .args .n * c .before .before .before .before .before .before .before .before .before .before .before .before .before .before .before .before .before .before .before .before .args .n) (length-symmetric (c .before .before .before .before .before .before .before .before .before .before .before .before .before .before .before .before .before .before .before .before .args .n) (product (c .before .before .before .before .before .before .before .before .before .before .before .before .before .before .before .before .before .before .before .before .args .columns .now) (c .before .before .before .before .before .before .before .before .before .before .before .before .before .before .before .before .before .before .before .before .args .inverse) (c .before .before .before .before .before .before .before .before .before .before .before .before .before .before .before .before .before .before .before .before .args .n) (c .before .before .before .before .before .before .before .before .before .before .before .before .before .before .before .before .before .before .before .before .args .k))) in let g = ap (drop (c .before .before .before .before .before .before .before .before .before .before .before .before .before .before .before .before .before .before .before .before .args .n * c .before .before .before .before .before .before .before .before .before .before .before .before .before .before .before .before .before .before .before .before .args .n)) (c .before .before .before .before .before .before .before .before .before .before .before .before .before .before .before .mam .ensures .1) ∙ drop-at (mamOf (c .before .before .before .before .before .before .before .before .before .before .before .before .before .before .before .before .before .before .before .before .args .columns .now) (c .before .before .before .before .before .before .before .before .before .before .before .before .before .before .before .before .before .before .before .before .args .inverse) (c .before .before .before .before .before .before .before .before .before .before .before .before .before .before .before .before .before .before .before .before .args .n) (c .before .before .before .before .before .before .before .before .before .before .before .before .before .before .before .before .before .before .before .before .args .k)) _ (c .before .before .before .before .before .before .before .before .before .before .before .before .before .before .before .before .before .before .before .before .args .n * c .before .before .before .before .before .before .before .before .before .before .before .before .before .before .before .before .before .before .before .before .args .n) (length-symmetric (c .before .before .before .before .before .before .before .before .before .before .before .before .before .before .before .before .before .before .before .before .args .n) (product (c .before .before .before .before .before .before .before .before .before .before .before .before .before .before .before .before .before .before .before .before .args .columns .now) (c .before .before .before .before .before .before .before .before .before .before .before .before .before .before .before .before .before .before .before .before .args .inverse) (c .before .before .before .before .before .before .before .before .before .before .before .before .before .before .before .before .before .before .before .before .args .n) (c .before .before .before .before .before .before .before .before .before .before .before .before .before .before .before .before .before .before .before .before .args .k))) in let z = matrix-good (c .before .before .before .before .before .before .before .before .before .before .before .before .before .before .before .before .before .before .before .before .args .columns .now) (c .before .before .before .before .before .before .before .before .before .before .before .before .before .before .before .before .before .before .before .before .args .inverse) (c .before .before .before .before .before .before .before .before .before .before .before .before .before .before .before .before .before .before .before .before .args .n) (c .before .before .before .before .before .before .before .before .before .before .before .before .before .before .before .before .before .before .before .before .args .k) (sym (c .before .before .before .before .before .before .before .before .before .before .before .before .before .before .before .mam .ensures .0) ∙ c .before .before .before .before .before .before .before .before .before .before .before .enum-told2 .given .1) in (c .before .before .before .before .before .before .delivered .ensures .0 ∙ rw f (sym (z .0)), (rw (z .1) (rw f at (c .before .before .before .before .before .before .delivered .ensures .1 .1)), rw (z .2) (rw (f, g) at (c .before .before .before .before .before .before .delivered .ensures .1 .0))))
+returns-2 c =
+    let args = c .before .before .before .before .before .before .before .before .before .before .before .before .before .before .before .before .before .before .before .before .args in
+    let mam = c .before .before .before .before .before .before .before .before .before .before .before .before .before .before .before .mam in
+    let enum-told2 = c .before .before .before .before .before .before .before .before .before .before .before .enum-told2 in
+    let delivered = c .before .before .before .before .before .before .delivered in
+    let f : take (args .n * args .n) (mam .last .0) ≡ mamOf (args .columns .now) (args .inverse) (args .n) (args .k) = ap (take (args .n * args .n)) (mam .ensures .1) ∙ take-at (mamOf (args .columns .now) (args .inverse) (args .n) (args .k)) _ (args .n * args .n) (length-symmetric (args .n) (product (args .columns .now) (args .inverse) (args .n) (args .k))) in
+    let g = ap (drop (args .n * args .n)) (mam .ensures .1) ∙ drop-at (mamOf (args .columns .now) (args .inverse) (args .n) (args .k)) _ (args .n * args .n) (length-symmetric (args .n) (product (args .columns .now) (args .inverse) (args .n) (args .k))) in
+    let z = matrix-good (args .columns .now) (args .inverse) (args .n) (args .k) (sym (mam .ensures .0) ∙ enum-told2 .given .1) in
+    (delivered .ensures .0 ∙ rw f (sym (z .0)), (rw (z .1) (rw f at (delivered .ensures .1 .1)), rw (z .2) (rw (f, g) at (delivered .ensures .1 .0))))
 
 pub ma-eigenvalues-spec : {M : Type 1} → statement M
 ma-eigenvalues-spec =

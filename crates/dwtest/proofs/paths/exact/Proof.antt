@@ -39,7 +39,13 @@ slice-aggregate-probability : tie.Need-slice-aggregate-probability
 slice-aggregate-probability c = omega (arith, c .before .before .before .before .before .before .before .ma-eigenvalues .kept .1 .1 .1 .1 .1 .0)
 
 probability-requires : tie.Need-probability-requires
-probability-requires c κs = let h = kept-count (c .before .before .before .before .before .before .before .before .before .before .before .before .before .before .args .columns .now) (c .before .before .before .before .before .before .before .before .before .before .before .before .before .before .args .inverse) (c .before .before .before .before .before .before .before .before .before .before .before .before .before .before .args .n) (c .before .before .before .before .before .before .before .before .before .before .before .before .before .before .args .k) _ (sym (c .before .before .before .before .before .before .before .before .ma-eigenvalues .ensures .0) ∙ c .before .before .before .spectrum .given .1) in let w = kept-within (c .before .before .before .before .before .before .before .before .before .before .before .before .before .before .args .columns .now) (c .before .before .before .before .before .before .before .before .before .before .before .before .before .before .args .inverse) (c .before .before .before .before .before .before .before .before .before .before .before .before .before .before .args .n) (c .before .before .before .before .before .before .before .before .before .before .before .before .before .before .args .k) in (omega (arith, c .before .before .before .before .before .before .before .before .ma-eigenvalues .kept .1 .1 .1 .1 .1 .0), omega arith, omega arith)
+probability-requires c κs =
+    let args = c .before .before .before .before .before .before .before .before .before .before .before .before .before .before .args in
+    let ma-eigenvalues = c .before .before .before .before .before .before .before .before .ma-eigenvalues in
+    let spectrum = c .before .before .before .spectrum in
+    let h = kept-count (args .columns .now) (args .inverse) (args .n) (args .k) _ (sym (ma-eigenvalues .ensures .0) ∙ spectrum .given .1) in
+    let w = kept-within (args .columns .now) (args .inverse) (args .n) (args .k) in
+    (omega (arith, ma-eigenvalues .kept .1 .1 .1 .1 .1 .0), omega arith, omega arith)
 
 by-imhof-requires : tie.Need-by-imhof-requires
 by-imhof-requires c κs = search needs
@@ -49,14 +55,20 @@ same-length c = search needs
 
 returns : tie.Need-returns
 unfolding exactPath
-returns c = (rw (c .refused .ensures, ← c .before .before .before .before .before .before .ma-eigenvalues .ensures .0, c .before .enum-told .given .1), (beyond (c .before .before .before .before .before .before .before .before .before .before .before .before .args .columns .now) (c .before .before .before .before .before .before .before .before .before .before .before .before .args .inverse) (c .before .before .before .before .before .before .before .before .before .before .before .before .args .n) (c .before .before .before .before .before .before .before .before .before .before .before .before .args .k) (c .before .before .before .before .before .before .before .before .before .before .before .before .args .matrix .now) _ (c .before .before .before .before .before .before .ma-eigenvalues .ensures .1 .1), refl))
+returns c =
+    let args = c .before .before .before .before .before .before .before .before .before .before .before .before .args in
+    let ma-eigenvalues = c .before .before .before .before .before .before .ma-eigenvalues in
+    (rw (c .refused .ensures, ← ma-eigenvalues .ensures .0, c .before .enum-told .given .1), (beyond (args .columns .now) (args .inverse) (args .n) (args .k) (args .matrix .now) _ (ma-eigenvalues .ensures .1 .1), refl))
 
 same-length-2 : tie.Need-same-length-2
 same-length-2 c = search needs
 
 returns-2 : tie.Need-returns-2
 unfolding exactPath
-returns-2 c = (rw (c .refused2 .ensures, ← c .before .before .before .before .before .before .ma-eigenvalues .ensures .0, c .before .enum-told2 .given .1), (beyond (c .before .before .before .before .before .before .before .before .before .before .before .before .args .columns .now) (c .before .before .before .before .before .before .before .before .before .before .before .before .args .inverse) (c .before .before .before .before .before .before .before .before .before .before .before .before .args .n) (c .before .before .before .before .before .before .before .before .before .before .before .before .args .k) (c .before .before .before .before .before .before .before .before .before .before .before .before .args .matrix .now) _ (c .before .before .before .before .before .before .ma-eigenvalues .ensures .1 .1), refl))
+returns-2 c =
+    let args = c .before .before .before .before .before .before .before .before .before .before .before .before .args in
+    let ma-eigenvalues = c .before .before .before .before .before .before .ma-eigenvalues in
+    (rw (c .refused2 .ensures, ← ma-eigenvalues .ensures .0, c .before .enum-told2 .given .1), (beyond (args .columns .now) (args .inverse) (args .n) (args .k) (args .matrix .now) _ (ma-eigenvalues .ensures .1 .1), refl))
 
 same-length-3 : tie.Need-same-length-3
 same-length-3 c = search needs
@@ -66,7 +78,14 @@ same-length-4 c = search needs
 
 returns-3 : tie.Need-returns-3
 unfolding exactPath
-returns-3 c = let h = kept-count (c .before .before .before .before .before .before .before .before .before .before .before .before .before .before .before .before .before .before .args .columns .now) (c .before .before .before .before .before .before .before .before .before .before .before .before .before .before .before .before .before .before .args .inverse) (c .before .before .before .before .before .before .before .before .before .before .before .before .before .before .before .before .before .before .args .n) (c .before .before .before .before .before .before .before .before .before .before .before .before .before .before .before .before .before .before .args .k) _ (sym (c .before .before .before .before .before .before .before .before .before .before .before .before .ma-eigenvalues .ensures .0) ∙ c .before .before .before .before .before .before .before .spectrum .given .1) in let a = c .before .before .before .probability .ensures .0 ∙ front (c .before .before .before .before .before .before .before .before .before .before .before .before .ma-eigenvalues .last .1 .1 .1 .1 .1 .0) (keptNumbers (c .before .before .before .before .before .before .before .before .before .before .before .before .before .before .before .before .before .before .args .columns .now) (c .before .before .before .before .before .before .before .before .before .before .before .before .before .before .before .before .before .before .args .inverse) (c .before .before .before .before .before .before .before .before .before .before .before .before .before .before .before .before .before .before .args .n) (c .before .before .before .before .before .before .before .before .before .before .before .before .before .before .before .before .before .before .args .k)) _ (c .before .before .before .before .before .before .before .spectrum .given .0 .0 .count) (c .before .before .before .before .before .before .before .before .before .before .before .before .before .before .before .before .before .before .args .d) (c .before .before .before .before .before .before .before .before .before .before .before .before .ma-eigenvalues .ensures .1 .0) h in (rw (c .by-imhof .ensures, a, ← c .before .before .before .before .before .before .before .before .before .before .before .before .ma-eigenvalues .ensures .0, c .before .before .before .before .before .before .before .spectrum .given .1), (beyond (c .before .before .before .before .before .before .before .before .before .before .before .before .before .before .before .before .before .before .args .columns .now) (c .before .before .before .before .before .before .before .before .before .before .before .before .before .before .before .before .before .before .args .inverse) (c .before .before .before .before .before .before .before .before .before .before .before .before .before .before .before .before .before .before .args .n) (c .before .before .before .before .before .before .before .before .before .before .before .before .before .before .before .before .before .before .args .k) (c .before .before .before .before .before .before .before .before .before .before .before .before .before .before .before .before .before .before .args .matrix .now) _ (c .before .before .before .before .before .before .before .before .before .before .before .before .ma-eigenvalues .ensures .1 .1), c .before .before .before .probability .ensures .1))
+returns-3 c =
+    let args = c .before .before .before .before .before .before .before .before .before .before .before .before .before .before .before .before .before .before .args in
+    let ma-eigenvalues = c .before .before .before .before .before .before .before .before .before .before .before .before .ma-eigenvalues in
+    let spectrum = c .before .before .before .before .before .before .before .spectrum in
+    let probability = c .before .before .before .probability in
+    let h = kept-count (args .columns .now) (args .inverse) (args .n) (args .k) _ (sym (ma-eigenvalues .ensures .0) ∙ spectrum .given .1) in
+    let a = probability .ensures .0 ∙ front (ma-eigenvalues .last .1 .1 .1 .1 .1 .0) (keptNumbers (args .columns .now) (args .inverse) (args .n) (args .k)) _ (spectrum .given .0 .0 .count) (args .d) (ma-eigenvalues .ensures .1 .0) h in
+    (rw (c .by-imhof .ensures, a, ← ma-eigenvalues .ensures .0, spectrum .given .1), (beyond (args .columns .now) (args .inverse) (args .n) (args .k) (args .matrix .now) _ (ma-eigenvalues .ensures .1 .1), probability .ensures .1))
 
 pub exact-spec : {M : Type 1} → statement M
 exact-spec =

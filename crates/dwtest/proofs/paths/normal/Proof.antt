@@ -47,15 +47,31 @@ refused-requires-2 c κs = search needs
 
 returns-2 : tie.Need-returns-2
 unfolding normalPath
-returns-2 c = rw (c .accepted2 .ensures, c .before .normal-p .ensures, le-ltb (c .before .before .before .before .before .before .before .before .before .args .n) 5 (c .before .before .before .before .before .before .before .if1 .left), ← c .before .before .before .before .before .before .normal-law .ensures, ← c .before .before .before .before .before .check-law .ensures, c .before .before .before .found .given .1)
+returns-2 c =
+    let args = c .before .before .before .before .before .before .before .before .before .args in
+    let if1 = c .before .before .before .before .before .before .before .if1 in
+    let normal-law = c .before .before .before .before .before .before .normal-law in
+    let check-law = c .before .before .before .before .before .check-law in
+    let found = c .before .before .before .found in
+    rw (c .accepted2 .ensures, c .before .normal-p .ensures, le-ltb (args .n) 5 (if1 .left), ← normal-law .ensures, ← check-law .ensures, found .given .1)
 
 returns-3 : tie.Need-returns-3
 unfolding normalPath
-returns-3 c = rw (c .refused .ensures, le-ltb (c .before .before .before .before .before .before .before .args .n) 5 (c .before .before .before .before .before .if1 .left), ← c .before .before .before .before .normal-law .ensures, ← c .before .before .before .check-law .ensures, c .before .enum-told .given .1)
+returns-3 c =
+    let args = c .before .before .before .before .before .before .before .args in
+    let if1 = c .before .before .before .before .before .if1 in
+    let normal-law = c .before .before .before .before .normal-law in
+    let check-law = c .before .before .before .check-law in
+    rw (c .refused .ensures, le-ltb (args .n) 5 (if1 .left), ← normal-law .ensures, ← check-law .ensures, c .before .enum-told .given .1)
 
 returns-4 : tie.Need-returns-4
 unfolding normalPath
-returns-4 c = rw (c .refused2 .ensures, le-ltb (c .before .before .before .before .before .before .before .args .n) 5 (c .before .before .before .before .before .if1 .left), ← c .before .before .before .before .normal-law .ensures, ← c .before .before .before .check-law .ensures, c .before .enum-told2 .given .1)
+returns-4 c =
+    let args = c .before .before .before .before .before .before .before .args in
+    let if1 = c .before .before .before .before .before .if1 in
+    let normal-law = c .before .before .before .before .normal-law in
+    let check-law = c .before .before .before .check-law in
+    rw (c .refused2 .ensures, le-ltb (args .n) 5 (if1 .left), ← normal-law .ensures, ← check-law .ensures, c .before .enum-told2 .given .1)
 
 pub normal-spec : {M : Type 1} → statement M
 normal-spec =

@@ -41,7 +41,10 @@ loop-less : tie.Need-loop-less Inv-loop μ-loop
 loop-less c = search needs
 
 loop-again : tie.Need-loop-again Inv-loop μ-loop
-loop-again c = (omega arith, search needs, omega arith, c .before .before .before .loop .inv .3 ∙ rw (large-left (c .before .before .before .before .args .d .now) (c .before .before .before .loop .t) (omega arith) (not-true _ (c .if1 .taken))), c .before .before .before .loop .inv .4 ∙ rw (large-left (c .before .before .before .before .args .d .now) (c .before .before .before .loop .t) (omega arith) (not-true _ (c .if1 .taken))))
+loop-again c =
+    let args = c .before .before .before .before .args in
+    let loop = c .before .before .before .loop in
+    (omega arith, search needs, omega arith, loop .inv .3 ∙ rw (large-left (args .d .now) (loop .t) (omega arith) (not-true _ (c .if1 .taken))), loop .inv .4 ∙ rw (large-left (args .d .now) (loop .t) (omega arith) (not-true _ (c .if1 .taken))))
 
 mul-kept : tie.Need-mul-kept Inv-loop μ-loop
 mul-kept c = search needs
@@ -59,7 +62,10 @@ loop-less-2 : tie.Need-loop-less-2 Inv-loop μ-loop
 loop-less-2 c = search needs
 
 loop-again-2 : tie.Need-loop-again-2 Inv-loop μ-loop
-loop-again-2 c = (omega arith, simp length-set (omega arith), omega arith, rw (large-kept (c .before .before .before .before .args .d .now) (c .before .before .before .loop .t) (omega arith) (not-false _ (c .if1 .left)), length-append, ← c .before .before .before .loop .inv .3), rw (c .before .before .before .loop .inv .4, large-kept (c .before .before .before .before .args .d .now) (c .before .before .before .loop .t) (omega arith) (not-false _ (c .if1 .left))) (store-next (large (take (c .before .before .before .loop .t) (c .before .before .before .before .args .d .now))) (c .before .before .before .before .args .kept .now) (c .before .before .before .before .args .d .now ‼ c .before .before .before .loop .t) (c .before .before .before .loop .count) (c .before .before .before .loop .inv .3) (omega arith)))
+loop-again-2 c =
+    let args = c .before .before .before .before .args in
+    let loop = c .before .before .before .loop in
+    (omega arith, simp length-set (omega arith), omega arith, rw (large-kept (args .d .now) (loop .t) (omega arith) (not-false _ (c .if1 .left)), length-append, ← loop .inv .3), rw (loop .inv .4, large-kept (args .d .now) (loop .t) (omega arith) (not-false _ (c .if1 .left))) (store-next (large (take (loop .t) (args .d .now))) (args .kept .now) (args .d .now ‼ loop .t) (loop .count) (loop .inv .3) (omega arith)))
 
 same-length : tie.Need-same-length Inv-loop μ-loop
 same-length c = search needs

@@ -36,7 +36,10 @@ comes-before-requires : tie.Need-comes-before-requires Inv-loop μ-loop
 comes-before-requires c κs = search needs
 
 returns : tie.Need-returns Inv-loop μ-loop
-returns c = (omega arith, sym (c .before .before .before .before .loop .inv .1) ∙ rw (insert-here (c .before .before .before .before .before .before .args .d .now) (c .before .before .before .before .loop .p) (c .before .before .before .before .before .before .args .i) (c .before .before .before .before .before .before .args .x) (omega arith) (omega arith) (sym (c .before .comes-before .ensures) ∙ c .if1 .taken)))
+returns c =
+    let args = c .before .before .before .before .before .before .args in
+    let loop = c .before .before .before .before .loop in
+    (omega arith, sym (loop .inv .1) ∙ rw (insert-here (args .d .now) (loop .p) (args .i) (args .x) (omega arith) (omega arith) (sym (c .before .comes-before .ensures) ∙ c .if1 .taken)))
 
 add-p : tie.Need-add-p Inv-loop μ-loop
 add-p c = search needs
@@ -45,7 +48,10 @@ loop-less : tie.Need-loop-less Inv-loop μ-loop
 loop-less c = search needs
 
 loop-again : tie.Need-loop-again Inv-loop μ-loop
-loop-again c = (omega arith, sym (insert-on (c .before .before .before .before .before .before .args .d .now) (c .before .before .before .before .loop .p) (c .before .before .before .before .before .before .args .i) (c .before .before .before .before .before .before .args .x) (omega arith) (omega arith) (sym (c .before .comes-before .ensures) ∙ c .if1 .left)) ∙ c .before .before .before .before .loop .inv .1)
+loop-again c =
+    let args = c .before .before .before .before .before .before .args in
+    let loop = c .before .before .before .before .loop in
+    (omega arith, sym (insert-on (args .d .now) (loop .p) (args .i) (args .x) (omega arith) (omega arith) (sym (c .before .comes-before .ensures) ∙ c .if1 .left)) ∙ loop .inv .1)
 
 returns-2 : tie.Need-returns-2 Inv-loop μ-loop
 returns-2 c = (omega arith, sym (rw (le-antisymm (c .before .loop .inv .0) (c .loop-test .left)) at (c .before .loop .inv .1)) ∙ rw (insert-last (c .before .before .before .args .d .now) (c .before .before .before .args .i) (c .before .before .before .args .x)))

@@ -64,7 +64,11 @@ loop-less : tie.Need-loop-less Inv-loop μ-loop
 loop-less c = search needs
 
 loop-again : tie.Need-loop-again Inv-loop μ-loop
-loop-again c = (omega arith, simp length-set (omega arith), drop-set-lt (c .before .before .before .before .before .before .before .args .i + 1) (c .before .before .loop .d) (c .before .before .before .place .result + c .before .before .loop .t) (c .before .before .loop .x) (omega arith) ∙ c .before .before .loop .inv .2, rw (← add-assoc (c .before .before .before .place .result) (c .before .before .loop .t) 1) (sym (carry (c .before .before .loop .d) (c .before .before .before .place .result + c .before .before .loop .t) (c .before .before .before .before .before .before .before .args .i) (c .before .before .loop .x) (omega arith) (omega arith)) ∙ c .before .before .loop .inv .3))
+loop-again c =
+    let args = c .before .before .before .before .before .before .before .args in
+    let place = c .before .before .before .place in
+    let loop = c .before .before .loop in
+    (omega arith, simp length-set (omega arith), drop-set-lt (args .i + 1) (loop .d) (place .result + loop .t) (loop .x) (omega arith) ∙ loop .inv .2, rw (← add-assoc (place .result) (loop .t) 1) (sym (carry (loop .d) (place .result + loop .t) (args .i) (loop .x) (omega arith) (omega arith)) ∙ loop .inv .3))
 
 mul-d-2 : tie.Need-mul-d-2 Inv-loop μ-loop
 mul-d-2 c = search needs
@@ -76,7 +80,11 @@ same-length : tie.Need-same-length Inv-loop μ-loop
 same-length c = search needs
 
 returns : tie.Need-returns Inv-loop μ-loop
-returns c = let h : c .before .before .place .result + c .before .loop .t ≡ c .before .before .before .before .before .before .args .i = omega arith in put-last (c .before .loop .d) (c .before .before .before .before .before .before .args .d .now) (c .before .before .before .before .before .before .args .i) (c .before .loop .x) _ (omega arith) (c .before .loop .inv .2) (rw h at (c .before .loop .inv .3) ∙ sym (c .before .before .place .ensures .1))
+returns c =
+    let args = c .before .before .before .before .before .before .args in
+    let place = c .before .before .place in
+    let loop = c .before .loop in
+    let h : place .result + loop .t ≡ args .i = omega arith in put-last (loop .d) (args .d .now) (args .i) (loop .x) _ (omega arith) (loop .inv .2) (rw h at (loop .inv .3) ∙ sym (place .ensures .1))
 
 pub put-in-spec : {M : Type 1} → statement M
 put-in-spec =
