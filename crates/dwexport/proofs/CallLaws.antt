@@ -54,3 +54,14 @@ module _ (e x : List Float) (k alternative choice : ℕ) (matrix parts : List Fl
       ≡ matrixAfter e x k alternative choice matrix parts result)
       × (clearedOf (touched e x k (choiceOf choice) (length matrix) (length parts)) 8004 parts ≡ partsAfter e x k alternative choice matrix parts result)
   answered-gives h = rw h (refl, refl, refl)
+
+  -- any two outcomes that the promise allows are one: the return value, the result's words and both rooms
+  abbrev pub Promised : ℕ → List ℕ → List Float → List Float → Type 0
+  Promised r words m p =
+      (r ≡ statusOf (length result) alternative choice) ×
+      (words ≡ resultOf e x k alternative choice matrix parts result) ×
+      (m ≡ matrixAfter e x k alternative choice matrix parts result) ×
+      (p ≡ partsAfter e x k alternative choice matrix parts result)
+
+  pub one-call : (r s : ℕ) (w w' : List ℕ) (m m' p p' : List Float) → Promised r w m p → Promised s w' m' p' → (r ≡ s) × (w ≡ w') × (m ≡ m') × (p ≡ p')
+  one-call r s w w' m m' p p' f g = (f .0 ∙ sym (g .0), f .1 ∙ sym (g .1), f .2 ∙ sym (g .2), f .3 ∙ sym (g .3))

@@ -1,21 +1,83 @@
--- Any two outcomes that the promise of `durbin_watson_test` allows are one and the same: the result, and what both rooms hold. Assumes nothing.
+-- Any two outcomes that a promise allows are one and the same, result and lent runs: of the test, and of the layers below it whose crates do not say so themselves. Each
+-- promise says what its result and its runs at the end equal. Assumes nothing.
 use mathlib.Core.Path.{_≡_, sym, _∙_}
-use mathlib.Core.List.{List}
-use Prim.Native.Nat.{ℕ, _*_}
-use lib.ListN.{length}
+use mathlib.Core.List.{List, _++_}
+use Prim.Native.Nat.{ℕ, _+_, _*_}
+use lib.ListN.{length, drop}
 use lib.Ieee.{Float}
+use Rattle.floats.specs.Search.{firstBad}
+use Rattle.floats.specs.declared.search.Found.{Found}
+use Rattle.floats.specs.declared.tally.Tally.{Tally}
+use Rattle.design.specs.Matrix.{Matrix}
 use Rattle.design.specs.declared.Alternative.{Alternative}
+use Rattle.projection.specs.Projection.{mamOf, residualMaker}
+use Rattle.tridiagonal.specs.Reflection.{tridiagonalOf}
+use Rattle.tridiagonal.specs.Bands.{diagonalOf, couplingsOf}
+use Rattle.ql.specs.Ql.{qlOf}
+use Rattle.eigen.specs.Spectrum.{spectrumOf, keptNumbers, frontOf}
+use Rattle.eigen.specs.declared.Spectrum.{Spectrum}
+use Rattle.imhof.specs.Room.{laidOut}
+use Rattle.imhof.specs.Imhof.{imhofOf}
+use Rattle.imhof.specs.declared.Exact.{Exact}
 use Rattle.dwtest.specs.Test.{testOf, touched, clearedOf}
 use Rattle.dwtest.specs.declared.Outcome.{Outcome}
 use Rattle.dwtest.specs.declared.Choice.{Choice}
 
--- what the promise says of a result and of both rooms at the end
-abbrev pub Promised : List Float → List Float → ℕ → Alternative → Choice → List Float → List Float → Outcome → List Float → List Float → Type 0
-Promised e x k a choice matrix parts r matrixAfter partsAfter =
-    (r ≡ testOf e x k a choice (length matrix) (length parts)) ×
-    (matrixAfter ≡ clearedOf (touched e x k choice (length matrix) (length parts)) (2 * (length e * length e)) matrix) ×
-    (partsAfter ≡ clearedOf (touched e x k choice (length matrix) (length parts)) 8004 parts)
+-- two values of one thing
+both : {A : Type 0} {r s t : A} → r ≡ t → s ≡ t → r ≡ s
+both p q = p ∙ sym q
 
-pub one-outcome : (e x : List Float) (k : ℕ) (a : Alternative) (choice : Choice) (matrix parts : List Float) (r s : Outcome) (m m' p p' : List Float)
-    → Promised e x k a choice matrix parts r m p → Promised e x k a choice matrix parts s m' p' → (r ≡ s) × (m ≡ m') × (p ≡ p')
-one-outcome e x k a choice matrix parts r s m m' p p' f g = (f .0 ∙ sym (g .0), f .1 ∙ sym (g .1), f .2 ∙ sym (g .2))
+-- ---- `durbin_watson_test`: the result, and both rooms at the end
+module _ (e x : List Float) (k : ℕ) (a : Alternative) (choice : Choice) (matrix parts : List Float) where
+  abbrev pub Promised : Outcome → List Float → List Float → Type 0
+  Promised r matrixAfter partsAfter =
+      (r ≡ testOf e x k a choice (length matrix) (length parts)) ×
+      (matrixAfter ≡ clearedOf (touched e x k choice (length matrix) (length parts)) (2 * (length e * length e)) matrix) ×
+      (partsAfter ≡ clearedOf (touched e x k choice (length matrix) (length parts)) 8004 parts)
+
+  pub one-outcome : (r s : Outcome) (m m' p p' : List Float) → Promised r m p → Promised s m' p' → (r ≡ s) × (m ≡ m') × (p ≡ p')
+  one-outcome r s m m' p p' f g = (both (f .0) (g .0), both (f .1) (g .1), both (f .2) (g .2))
+
+-- ---- `prob_below_zero`: the answer, and the part room
+module _ (eigenvalues : List Float) (d : Float) (room : List Float) where
+  abbrev pub Probable : Exact → List Float → Type 0
+  Probable r after = (r ≡ imhofOf eigenvalues d .answer) × (after ≡ laidOut (imhofOf eigenvalues d .parts) room)
+
+  pub one-probability : (r s : Exact) (p p' : List Float) → Probable r p → Probable s p' → (r ≡ s) × (p ≡ p')
+  one-probability r s p p' f g = (both (f .0) (g .0), both (f .1) (g .1))
+
+-- ---- `ma_eigenvalues`: the answer, the run of kept numbers, and the matrix room; `mam`: the first number that is not finite, and the room
+module _ (x : List Float) (inverse : Matrix) (n k : ℕ) (run room : List Float) where
+  abbrev pub Kept : Spectrum → List Float → List Float → Type 0
+  Kept r after held =
+      (r ≡ spectrumOf x inverse n k) ×
+      (after ≡ keptNumbers x inverse n k ++ drop (length (keptNumbers x inverse n k)) run) ×
+      (held ≡ frontOf x inverse n k ++ (residualMaker x inverse n k ++ drop (n * n + n * n) room))
+
+  pub one-spectrum : (r s : Spectrum) (p p' m m' : List Float) → Kept r p m → Kept s p' m' → (r ≡ s) × (p ≡ p') × (m ≡ m')
+  one-spectrum r s p p' m m' f g = (both (f .0) (g .0), both (f .1) (g .1), both (f .2) (g .2))
+
+  abbrev pub Projected : Found → List Float → Type 0
+  Projected r held = (r ≡ firstBad (mamOf x inverse n k)) × (held ≡ mamOf x inverse n k ++ (residualMaker x inverse n k ++ drop (n * n + n * n) room))
+
+  pub one-product : (r s : Found) (m m' : List Float) → Projected r m → Projected s m' → (r ≡ s) × (m ≡ m')
+  one-product r s m m' f g = (both (f .0) (g .0), both (f .1) (g .1))
+
+-- ---- `tridiagonalize`, `bands` and `ql`
+module _ (n : ℕ) (a : List Float) where
+  pub one-reduction : (m m' : List Float) → m ≡ tridiagonalOf n a → m' ≡ tridiagonalOf n a → m ≡ m'
+  one-reduction m m' = both
+
+  module _ (d e : List Float) where
+    abbrev pub Banded : List Float → List Float → Type 0
+    Banded d' e' = (d' ≡ diagonalOf n a ++ drop n d) × (e' ≡ couplingsOf n a ++ drop n e)
+
+    pub one-bands : (p p' q q' : List Float) → Banded p q → Banded p' q' → (p ≡ p') × (q ≡ q')
+    one-bands p p' q q' f g = (both (f .0) (g .0), both (f .1) (g .1))
+
+module _ (n : ℕ) (d e : List Float) (work : Tally) where
+  abbrev pub Swept : Tally → List Float → List Float → Type 0
+  Swept t d' e' = (t ≡ qlOf n n d e work .work) × (d' ≡ qlOf n n d e work .diagonal) × (e' ≡ qlOf n n d e work .coupling)
+
+  pub one-sweeping : (t u : Tally) (p p' q q' : List Float) → Swept t p q → Swept u p' q' → (t ≡ u) × (p ≡ p') × (q ≡ q')
+  one-sweeping t u p p' q q' f g = (both (f .0) (g .0), both (f .1) (g .1), both (f .2) (g .2))
