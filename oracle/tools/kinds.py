@@ -132,8 +132,8 @@ def regression(chance, n, k):
 
 
 def ordinary(chance, index):
-    """regressions of 3 to 64 rows and 1 to 8 columns, with their OLS residuals"""
-    return Entry.of_floats(*regression(chance, *chance.size()), *chance.codes())
+    """regressions of 11 to 64 rows and 1 to 8 columns, at least 3 rows more than columns, with their OLS residuals"""
+    return Entry.of_floats(*regression(chance, *chance.size((11, 64))), *chance.codes())
 
 
 def sizes(chance, index):
