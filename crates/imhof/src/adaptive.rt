@@ -20,7 +20,7 @@ use super::rule::gk15;
 use floats::tally::Tally;
 
 // Half of 1e-11: the cuts of the range and the quadrature share it.
-const TOLERANCE: f64 = 5e-12;
+pub const TOLERANCE: f64 = 5e-12;
 
 // Where a turn left things: how the parts stand, and the work tally.
 pub struct Turn {
@@ -28,7 +28,7 @@ pub struct Turn {
     pub tally: Tally,
 }
 
-fn is_finite_part(p: Part) -> bool
+pub fn is_finite_part(p: Part) -> bool
     ensures { λ r. ⌜ r ≡ finitePart p ⌝ }
 {
     if floats::signs::is_finite(p.value) {
@@ -37,7 +37,7 @@ fn is_finite_part(p: Part) -> bool
     false
 }
 
-fn are_finite(h: Halves) -> bool
+pub fn are_finite(h: Halves) -> bool
     ensures { λ r. ⌜ r ≡ finitePart (h .left) && finitePart (h .right) ⌝ }
 {
     if is_finite_part(h.left) {

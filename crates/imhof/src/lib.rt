@@ -12,7 +12,7 @@ pub mod adaptive;
 mod integrand;
 mod range;
 mod room;
-mod rule;
+pub mod rule;
 mod weights;
 
 // A part of the range: its ends, its integral by Kronrod's rule, and the distance from Gauss's.
