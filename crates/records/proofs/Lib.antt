@@ -1,0 +1,9 @@
+pub mod Walk
+pub mod ZeroCall
+pub mod Local
+pub mod ClearLaws
+pub mod TurnLaws
+pub mod LookLaws
+pub mod WorkLaws
+pub mod SameAnswer
+pub mod AnswerLaws
