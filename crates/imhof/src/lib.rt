@@ -10,10 +10,10 @@ use floats::tally::Tally;
 
 pub mod adaptive;
 mod integrand;
-mod range;
+pub mod range;
 mod room;
 pub mod rule;
-mod weights;
+pub mod weights;
 
 // A part of the range: its ends, its integral by Kronrod's rule, and the distance from Gauss's.
 pub struct Part {

@@ -5,6 +5,7 @@ use native.Mathlib.Omega.{arith}
 use borrow.Author.Tests.{not-true, not-false, le-leb, lt-leb}
 use Rattle.imhof.specs.Integrand.{integrandOf}
 use Rattle.imhof.specs.Parts.{finitePart, leftHalf, rightHalf}
+use Rattle.records.specs.Records.{courseOf}
 use Rattle.records.proofs.TurnLaws.{turned-shut, turned-full, turned-small, turned-broken, turned-halved}
 use borrow.Author.Needs.{needs}
 use Rattle.records.proofs.course.turned.Statement.{statement}
@@ -31,7 +32,8 @@ evaluated-requires-2 c κs = rw (c .evaluated .ensures, c .before .bisected .ens
 
 returns-5 : tie.Need-returns-5
 returns-5 c = let fine : finitePart (leftHalf (integrandOf (c .before .before .before .before .before .before .before .before .before .before .before .before .before .before .before .args .weights .now)) (c .before .before .before .before .before .before .before .before .before .before .before .before .before .before .before .args .l .greatest)) && finitePart (rightHalf (integrandOf (c .before .before .before .before .before .before .before .before .before .before .before .before .before .before .before .args .weights .now)) (c .before .before .before .before .before .before .before .before .before .before .before .before .before .before .before .args .l .greatest)) ≡ true = rw (← c .before .before .before .before .before .before .bisect .ensures .0, ← c .before .before .before .before .before .before .bisect .ensures .1, ← c .before .before .before .before .before .are-finite .ensures) (not-false (c .before .before .before .before .before .are-finite .result) (c .before .before .before .before .if4 .left)) in
-    rw (c .formed4 .ensures, c .before .evaluated2 .ensures, c .before .before .evaluated .ensures, c .before .before .before .bisected .ensures, c .before .before .before .before .before .before .bisect .ensures .0, c .before .before .before .before .before .before .bisect .ensures .1) (sym (turned-halved (integrandOf (c .before .before .before .before .before .before .before .before .before .before .before .before .before .before .before .args .weights .now)) (c .before .before .before .before .before .before .before .before .before .before .before .before .before .before .before .args .c) (c .before .before .before .before .before .before .before .before .before .before .before .before .before .before .before .args .l) (c .before .before .before .before .before .before .before .before .before .before .before .before .before .before .before .args .n) (not-false (c .before .before .before .before .before .before .before .before .before .before .before .before .before .before .before .args .c .more) (c .before .before .before .before .before .before .before .before .before .before .before .before .if1 .left)) (lt-leb 2001 (c .before .before .before .before .before .before .before .before .before .before .before .before .before .before .before .args .n) (c .before .before .before .before .before .before .before .before .before .if2 .left)) (c .before .before .before .before .before .before .before .if3 .left) fine))
+    let made : c .formed4 .result ≡ courseOf true false (c .before .before .before .before .before .before .before .before .before .before .before .before .before .before .before .args .l) (c .before .before .before .before .before .before .bisect .result .left) (c .before .before .before .before .before .before .bisect .result .right) (c .before .evaluated2 .result) = c .formed4 .ensures in
+    rw (made, c .before .evaluated2 .ensures, c .before .before .evaluated .ensures, c .before .before .before .bisected .ensures, c .before .before .before .before .before .before .bisect .ensures .0, c .before .before .before .before .before .before .bisect .ensures .1) (sym (turned-halved (integrandOf (c .before .before .before .before .before .before .before .before .before .before .before .before .before .before .before .args .weights .now)) (c .before .before .before .before .before .before .before .before .before .before .before .before .before .before .before .args .c) (c .before .before .before .before .before .before .before .before .before .before .before .before .before .before .before .args .l) (c .before .before .before .before .before .before .before .before .before .before .before .before .before .before .before .args .n) (not-false (c .before .before .before .before .before .before .before .before .before .before .before .before .before .before .before .args .c .more) (c .before .before .before .before .before .before .before .before .before .before .before .before .if1 .left)) (lt-leb 2001 (c .before .before .before .before .before .before .before .before .before .before .before .before .before .before .before .args .n) (c .before .before .before .before .before .before .before .before .before .if2 .left)) (c .before .before .before .before .before .before .before .if3 .left) fine))
 
 pub turned-spec : {M : Type 1} → statement M
 turned-spec =
