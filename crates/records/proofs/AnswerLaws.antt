@@ -66,3 +66,10 @@ as-four-runs ws lo hi n four r h p q = q ∙ sym (answer-found n (quadratureOf (
 -- a list too short is refused as 12, place 2
 pub short-is-12 : (n : ℕ) (q : Quadrature) → n < 2001 → refusalOf (answerOf n q) ≡ (12, 2)
 short-is-12 n q h = ap refusalOf (sym (answer-short n q h))
+
+-- ---- any two outcomes that the promise of `quadrature` allows are one and the same
+pub one-answer : (n : ℕ) (q : Quadrature) (r s : Answer) → r ≡ answerOf n q → s ≡ answerOf n q → r ≡ s
+one-answer n q r s p o = p ∙ sym o
+
+pub one-list : (ps l m : List Part) → l ≡ clearedOf ps → m ≡ clearedOf ps → l ≡ m
+one-list ps l m p o = p ∙ sym o

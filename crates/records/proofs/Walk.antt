@@ -1,5 +1,6 @@
 -- What the walks of this crate share: one rule for each access or call. A walk is a proof by hand that a function's MIR meets its contract.
 --     tail         what follows the first statement of a body: the rest of a loop's turn, which the generated MIR has under no name
+--     known        a machine value that a row relates to r is the one of x, where r is x, and fits the type
 --     inside       32 * i fits a usize, where i is below the length of a slice of parts
 --     at-elem      the machine's place of element i, from the offset that `parts[i]` computes
 --     elem-is      element i's machine value fits its type
@@ -12,7 +13,7 @@
 --     calls-lent-with     a call that is lent the slice and takes such a `&` too
 --     big          an operand that is a large constant (`intBig`)
 -- The last nine assume `Given`.
-use mathlib.Core.Path.{_≡_, refl, sym, ap, subst}
+use mathlib.Core.Path.{_≡_, refl, sym, ap, subst, _∙_}
 use Prim.Native.Nat.{ℕ, _+_, _*_, _<_, _^_}
 use native.Mathlib.Omega.{arith}
 use mathlib.Core.List.{List, [], _∷_}
@@ -33,13 +34,14 @@ use types.Tokens.{lft-new, lft-end, lent-back}
 use types.SemTy.{cells, Arr}
 use types.Share.{arr-parts}
 use types.Run.{Reads, Writes, Opds, Opd as One, look-raw, store-raw}
-use denote.Laws.{Is, shows}
+use denote.RattleType.{RattleType}
+use denote.Laws.{Is, Tells, shows}
 use denote.Memory.{cellAt, shares, mem}
 use denote.Ref.{RefT}
 use denote.Slice.{Room, sliceVal, MutSlice, ShrSlice, finally}
 use denote.Lend.{Held, lends-slice, slice-back, lends-shr-slice}
 use denote.Index.{whole-in, whole-out, row, others, place, place-is, elem-out, elem-back, elem-put}
-use denote.Steps.{owned, heard}
+use denote.Steps.{owned, heard, only}
 use denote.Triple.Statement.{Contract, Triple}
 use denote.Triple.Call.{calls-at}
 use denote.Struct.Laws as LL
@@ -67,6 +69,9 @@ tail (switch c zs) = skip
 tail (exit n) = skip
 tail return = skip
 tail (call f xs d) = skip
+
+pub known : (R : RattleType) (low : R .Denot → Val) → Tells R (Is R) (λ d. low d ∷ []) → (r x : R .Denot) (v : Val) → r ≡ x → Is R r (v ∷ []) → (v ≡ low x) × Is R x (low x ∷ [])
+known R low tells r x v e is = (ap only (tells r (v ∷ []) is) ∙ ap low e, subst (λ (z : R .Denot). Is R z (low z ∷ [])) e (subst (λ (us : List Val). Is R r us) (tells r (v ∷ []) is) is))
 
 pub inside : (i n : ℕ) → i < n → Room T.the-row n → i * 32 < 2 ^ 64
 inside i n l room = omega (arith, l, room .1)

@@ -32,7 +32,7 @@ use denote.Ref.{RefT}
 use denote.Slice.{sliceTy, sliceVal, MutSlice, ShrSlice, Room, finally, slice-vals, shr-slice-tells, shr-slice-copy}
 use denote.Index.{row}
 use denote.Signature.{plain}
-use denote.Steps.{nothing, owned, peeks, heard, only}
+use denote.Steps.{nothing, owned, peeks, heard}
 use denote.Struct.Laws as LL
 use denote.Enum.Laws as EL
 use denote.Triple.Clauses.{ensured, lasts}
@@ -53,7 +53,7 @@ use Rattle.records.specs.declared.Answer.{Answer}
 use Rattle.records.specs.declared.Answer.the-variants.{Found}
 use Rattle.records.specs.Records.{zeroPart}
 use Rattle.records.specs.Answer.{answerOf, clearedOf}
-use Rattle.records.proofs.Walk.{PartIs, calls-known, calls-lent-with, big, ref}
+use Rattle.records.proofs.Walk.{PartIs, known, calls-known, calls-lent-with, big, ref}
 use Rattle.records.proofs.ZeroCall.{Zero, to-zero, asks-zero, says-zero}
 use Rattle.records.proofs.Local.{array, rep-wt, array-row, row-room}
 use Rattle.records.proofs.ClearLaws.{length-cleared}
@@ -122,10 +122,7 @@ module _ {M : Type 1} (𝓤 : URA M) (H : Heap 𝓤) (A : Atoms 𝓤) (W : Given
       fsplit ! $ move ! (1 ∷ []) $ fsplit ! $ move ! (1 ∷ []) $ fsplit ! $ move ! (1 ∷ []) $ fsplit ! $ fsplit ! $ rewrite ! 0 (λ (l : List Part). ‵ (finally T.the-row δ l)) (e .1) refl $
       move ! (6 ∷ []) $ split ! $ split ! $ move ! (1 ∷ []) $ split ! $ move ! (3 ∷ []) $
       -- [the result; the lifetime; true; the weights' token; the last list; …]
-      peeks ! N.the-row (Is N.the-row) (shows 𝓤 H A N.the-row) r (v ∷ []) (λ is. drop ! $ at-once ! $ move ! (2 ∷ []) $ frame ! $ frame ! $ move ! (1 ∷ []) $ frame ! $ by ! (told r v is (e .0 ∙ sym (answer-found (length ys) answer within)))))))
-    where
-      told : (r : Answer) (v : Val) → Is N.the-row r (v ∷ []) → r ≡ Found answer → {P : SProp 𝓤} → ent 𝓤 P (fact 𝓤 ((v ≡ N′.lowered (Found answer)) × AnswerIs (Found answer)))
-      told r v is e = factI 𝓤 _ _ (ap only (N′.lowers .val-is r (v ∷ []) is) ∙ ap N′.lowered e, subst (λ (z : Answer). Is N.the-row z (N′.lowered z ∷ [])) e (subst (λ (us : List Val). Is N.the-row r us) (N′.lowers .val-is r (v ∷ []) is) is))
+      peeks ! N.the-row (Is N.the-row) (shows 𝓤 H A N.the-row) r (v ∷ []) (λ is. drop ! $ at-once ! $ move ! (2 ∷ []) $ frame ! $ frame ! $ move ! (1 ∷ []) $ frame ! $ by ! (factI 𝓤 _ _ (known N.the-row N′.lowered (N′.lowers .val-is) r _ v (e .0 ∙ sym (answer-found (length ys) answer within)) is))))))
 
 module _ {M : Type 1} (𝓤 : URA M) (H : Heap 𝓤) (A : Atoms 𝓤) (W : Given 𝓤 H A) (at-mem : Memory → SProp 𝓤) (run : Routine → Fun 𝓤) (κw : Lft) (qw : Share) (wref : RefT (List Float)) (lo hi : Float)
     (w-room : Room f64 (length (wref .now))) (glo : T (fits binary64 lo)) (ghi : T (fits binary64 hi)) where

@@ -53,7 +53,7 @@ use Rattle.records.specs.declared.Answer.{Answer}
 use Rattle.records.specs.declared.Answer.the-variants.{RoomShort, Found}
 use Rattle.records.specs.Records.{zeroPart, foundOf, Work, workAfter}
 use Rattle.records.specs.Answer.{answerOf, clearedOf}
-use Rattle.records.proofs.Walk.{calls-known, calls-lent, calls-lent-with, big, ref}
+use Rattle.records.proofs.Walk.{known, calls-known, calls-lent, calls-lent-with, big, ref}
 use Rattle.records.proofs.ClearLaws.{length-cleared}
 use Rattle.records.proofs.WorkLaws.{length-work}
 use Rattle.records.proofs.AnswerLaws.{answer-short, answer-found, left-short, left-cleared, beyond-work}
@@ -142,7 +142,7 @@ module _ {M : Type 1} (𝓤 : URA M) (H : Heap 𝓤) (A : Atoms 𝓤) (W : Given
       qed W (raw (RoomShorts 𝓤 H A mem run .post to-room-short v) ∷ []) ∵ updating ! $
       use1 W (later (some (λ (r : Answer). (‵ ftrue ⊛ ‵ (N.the-row .own r (v ∷ []))) ⊛ raw (ensured 𝓤 H A room-short.ended (room-short.clauses 𝓤 H A mem run) tt tt tt r)))) (id⊢ 𝓤 _) $ await ! tt $ pick ! (λ r.
       split ! $ move ! (1 ∷ []) $ use1 W (raw (fact 𝓤 (r ≡ RoomShort))) (exE 𝓤 _ (λ ws. snd∗ 𝓤 (sem 𝓤 H A (lasts room-short.ended tt tt ws)) (fact 𝓤 (r ≡ RoomShort)))) $ heard ! (r ≡ RoomShort) (λ e. split ! $ drop ! $
-      peeks ! N.the-row (Is N.the-row) (shows 𝓤 H A N.the-row) r (v ∷ []) (λ is. at-once ! $ by ! (factI 𝓤 _ _ (ap only (N′.lowers .val-is r (v ∷ []) is) ∙ ap N′.lowered e, subst (λ (z : Answer). Is N.the-row z (N′.lowered z ∷ [])) e (subst (λ (us : List Val). Is N.the-row r us) (N′.lowers .val-is r (v ∷ []) is) is))))))
+      peeks ! N.the-row (Is N.the-row) (shows 𝓤 H A N.the-row) r (v ∷ []) (λ is. at-once ! $ by ! (factI 𝓤 _ _ (known N.the-row N′.lowered (N′.lowers .val-is) r _ v e is)))))
 
   abbrev to-found : Course → Founds 𝓤 H A mem run .Ghost
   to-found c = ((tt, tt, tt, (c, tt), (K′.lowered c ∷ [], tt)), tt)
@@ -155,7 +155,7 @@ module _ {M : Type 1} (𝓤 : URA M) (H : Heap 𝓤) (A : Atoms 𝓤) (W : Given
       qed W (raw (Founds 𝓤 H A mem run .post (to-found c) v) ∷ []) ∵ updating ! $
       use1 W (later (some (λ (r : Answer). (‵ ftrue ⊛ ‵ (N.the-row .own r (v ∷ []))) ⊛ raw (ensured 𝓤 H A found.ended (found.clauses 𝓤 H A mem run) tt (c, tt) tt r)))) (id⊢ 𝓤 _) $ await ! tt $ pick ! (λ r.
       split ! $ move ! (1 ∷ []) $ use1 W (raw (fact 𝓤 (r ≡ Found (foundOf c)))) (exE 𝓤 _ (λ ws. snd∗ 𝓤 (sem 𝓤 H A (lasts found.ended tt (c, tt) ws)) (fact 𝓤 (r ≡ Found (foundOf c))))) $ heard ! (r ≡ Found (foundOf c)) (λ e. split ! $ drop ! $
-      peeks ! N.the-row (Is N.the-row) (shows 𝓤 H A N.the-row) r (v ∷ []) (λ is. at-once ! $ by ! (factI 𝓤 _ _ (ap only (N′.lowers .val-is r (v ∷ []) is) ∙ ap N′.lowered e, subst (λ (z : Answer). Is N.the-row z (N′.lowered z ∷ [])) e (subst (λ (us : List Val). Is N.the-row r us) (N′.lowers .val-is r (v ∷ []) is) is))))))
+      peeks ! N.the-row (Is N.the-row) (shows 𝓤 H A N.the-row) r (v ∷ []) (λ is. at-once ! $ by ! (factI 𝓤 _ _ (known N.the-row N′.lowered (N′.lowers .val-is) r _ v e is)))))
 
 -- what is asked of the two that are lent the records, at (b, o) and at the list ys, and what they say
 module _ {M : Type 1} (𝓤 : URA M) (H : Heap 𝓤) (A : Atoms 𝓤) (W : Given 𝓤 H A) (mem : Memory → SProp 𝓤) (run : Routine → Fun 𝓤) (b o : ℕ) (ys : List Part) where
@@ -211,7 +211,7 @@ module _ {M : Type 1} (𝓤 : URA M) (H : Heap 𝓤) (A : Atoms 𝓤) (W : Given
         fsplit ! $ move ! (1 ∷ []) $ fsplit ! $ move ! (1 ∷ []) $ fsplit ! $ move ! (1 ∷ []) $ fsplit ! $ fsplit ! $ rewrite ! 0 (λ (l : List Part). ‵ (finally T.the-row δ l)) (e .1) refl $
         move ! (6 ∷ []) $ split ! $ split ! $ move ! (1 ∷ []) $ split ! $ move ! (3 ∷ []) $
         -- [the result; the lifetime; true; the weights' token; the last list; …]
-        peeks ! K.the-row (Is K.the-row) (shows 𝓤 H A K.the-row) r (v ∷ []) (λ is. drop ! $ at-once ! $ move ! (2 ∷ []) $ frame ! $ frame ! $ move ! (1 ∷ []) $ frame ! $ by ! (factI 𝓤 _ _ (ap only (K′.lowers .val-is r (v ∷ []) is) ∙ ap K′.lowered (e .0), subst (λ (z : Course). Is K.the-row z (K′.lowered z ∷ [])) (e .0) (subst (λ (us : List Val). Is K.the-row r us) (K′.lowers .val-is r (v ∷ []) is) is)))))))
+        peeks ! K.the-row (Is K.the-row) (shows 𝓤 H A K.the-row) r (v ∷ []) (λ is. drop ! $ at-once ! $ move ! (2 ∷ []) $ frame ! $ frame ! $ move ! (1 ∷ []) $ frame ! $ by ! (factI 𝓤 _ _ (known K.the-row K′.lowered (K′.lowers .val-is) r _ v (e .0) is))))))
 
 module _ {M : Type 1} (𝓤 : URA M) (H : Heap 𝓤) (A : Atoms 𝓤) (W : Given 𝓤 H A) (at-mem : Memory → SProp 𝓤) (run : Routine → Fun 𝓤) (κw : Lft) (qw : Share) (κ : Lft) (q : Share) (wref : RefT (List Float)) (lo hi : Float) (b o : ℕ) (γ : GName) (ys : List Part)
     (w-room : Room f64 (length (wref .now))) (glo : T (fits binary64 lo)) (ghi : T (fits binary64 hi)) (room : Room T.the-row (length ys)) where

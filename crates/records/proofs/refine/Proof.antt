@@ -1,6 +1,6 @@
 -- `records::refine` meets its contract: a walk of its MIR, by hand, with a loop of three calls. The borrow of the records is opened once, before the loop, and closed once, after it; `&[f64]`,
 -- the weights, is passed on as it came. After k turns the row and the course are those of `workAfter k`. Of the four callees the proof knows only their contracts. Assumes nothing.
-use mathlib.Core.Path.{_≡_, refl, sym, ap, subst, _∙_}
+use mathlib.Core.Path.{_≡_, refl, sym, ap, subst}
 use mathlib.Core.Bool.{Bool, true, false, not}
 use mathlib.Core.List.{List, [], _∷_}
 use Prim.Native.Nat.{ℕ, _+_, _-_, _<_, _≤_, _^_}
@@ -55,7 +55,7 @@ use Rattle.imhof.proofs.Part.Laws as T′
 use Rattle.records.specs.declared.course.Look.{Look}
 use Rattle.records.specs.declared.course.Course.{Course}
 use Rattle.records.specs.Records.{lookOf, startOf, turnedOf, splitOf, Work, workAfter}
-use Rattle.records.proofs.Walk.{PartIs, tail, at-elem, store-elem, calls-lent, calls-shared, calls-with, ref}
+use Rattle.records.proofs.Walk.{PartIs, known, tail, at-elem, store-elem, calls-lent, calls-shared, calls-with, ref}
 use Rattle.records.proofs.LookLaws.{worst-below}
 use Rattle.records.proofs.WorkLaws.{turned-more, decided, none-course, none-records, next-course, next-records, end-course, end-records, length-work, tally-fits}
 use Rattle.records.proofs.course.Look as L
@@ -160,7 +160,7 @@ module _ {M : Type 1} (𝓤 : URA M) (H : Heap 𝓤) (A : Atoms 𝓤) (W : Given
       qed W (raw (Start 𝓤 H A mem run .post (to-start lo hi) v) ∷ []) ∵ updating ! $
       use1 W (later (some (λ (r : Course). ((‵ (flft κw qw) ⊛ ‵ ftrue) ⊛ ‵ (K.the-row .own r (v ∷ []))) ⊛ raw (ensured 𝓤 H A start.ended (start.clauses 𝓤 H A mem run) (κw, tt) (wref, (lo, (hi, tt))) tt r)))) (id⊢ 𝓤 _) $ await ! tt $ pick ! (λ r.
       split ! $ move ! (1 ∷ []) $ use1 W (raw (fact 𝓤 (r ≡ startOf (integrandOf (wref .now)) lo hi))) (exE 𝓤 _ (λ ws. snd∗ 𝓤 (sem 𝓤 H A (lasts start.ended (κw, tt) (wref, (lo, (hi, tt))) ws)) (fact 𝓤 (r ≡ startOf (integrandOf (wref .now)) lo hi)))) $ heard ! (r ≡ startOf (integrandOf (wref .now)) lo hi) (λ e. split ! $ move ! (1 ∷ []) $
-      peeks ! K.the-row (Is K.the-row) (shows 𝓤 H A K.the-row) r (v ∷ []) (λ is. drop ! $ split ! $ at-once ! $ frame ! $ by ! (factI 𝓤 _ _ (ap only (K′.lowers .val-is r (v ∷ []) is) ∙ ap K′.lowered e, subst (λ (z : Course). Is K.the-row z (K′.lowered z ∷ [])) e (subst (λ (us : List Val). Is K.the-row r us) (K′.lowers .val-is r (v ∷ []) is) is))))))
+      peeks ! K.the-row (Is K.the-row) (shows 𝓤 H A K.the-row) r (v ∷ []) (λ is. drop ! $ split ! $ at-once ! $ frame ! $ by ! (factI 𝓤 _ _ (known K.the-row K′.lowered (K′.lowers .val-is) r _ v e is)))))
 
   abbrev to-turned : Course → Look → ℕ → Turned 𝓤 H A mem run .Ghost
   to-turned c l n = (((κw, tt), (qw, tt), tt, (wref, (c, (l, (n, tt)))), (sw ∷ [], (K′.lowered c ∷ [], (L′.lowered l ∷ [], (vint w64 n ∷ [], tt))))), tt)
@@ -175,7 +175,7 @@ module _ {M : Type 1} (𝓤 : URA M) (H : Heap 𝓤) (A : Atoms 𝓤) (W : Given
       qed W (raw (Turned 𝓤 H A mem run .post (to-turned c l n) v) ∷ []) ∵ updating ! $
       use1 W (later (some (λ (r : Course). ((‵ (flft κw qw) ⊛ ‵ ftrue) ⊛ ‵ (K.the-row .own r (v ∷ []))) ⊛ raw (ensured 𝓤 H A turned.ended (turned.clauses 𝓤 H A mem run) (κw, tt) (wref, (c, (l, (n, tt)))) tt r)))) (id⊢ 𝓤 _) $ await ! tt $ pick ! (λ r.
       split ! $ move ! (1 ∷ []) $ use1 W (raw (fact 𝓤 (r ≡ turnedOf (integrandOf (wref .now)) c l n))) (exE 𝓤 _ (λ ws. snd∗ 𝓤 (sem 𝓤 H A (lasts turned.ended (κw, tt) (wref, (c, (l, (n, tt)))) ws)) (fact 𝓤 (r ≡ turnedOf (integrandOf (wref .now)) c l n)))) $ heard ! (r ≡ turnedOf (integrandOf (wref .now)) c l n) (λ e. split ! $ move ! (1 ∷ []) $
-      peeks ! K.the-row (Is K.the-row) (shows 𝓤 H A K.the-row) r (v ∷ []) (λ is. drop ! $ split ! $ at-once ! $ frame ! $ by ! (factI 𝓤 _ _ (ap only (K′.lowers .val-is r (v ∷ []) is) ∙ ap K′.lowered e, subst (λ (z : Course). Is K.the-row z (K′.lowered z ∷ [])) e (subst (λ (us : List Val). Is K.the-row r us) (K′.lowers .val-is r (v ∷ []) is) is))))))
+      peeks ! K.the-row (Is K.the-row) (shows 𝓤 H A K.the-row) r (v ∷ []) (λ is. drop ! $ split ! $ at-once ! $ frame ! $ by ! (factI 𝓤 _ _ (known K.the-row K′.lowered (K′.lowers .val-is) r _ v e is)))))
 
 -- what is asked of the two that are lent the records, at (b, o) and at the list ys, and what they say
 module _ {M : Type 1} (𝓤 : URA M) (H : Heap 𝓤) (A : Atoms 𝓤) (W : Given 𝓤 H A) (mem : Memory → SProp 𝓤) (run : Routine → Fun 𝓤) (b o : ℕ) (ys : List Part) (n : ℕ) where
@@ -195,7 +195,7 @@ module _ {M : Type 1} (𝓤 : URA M) (H : Heap 𝓤) (A : Atoms 𝓤) (W : Given
       qed W (raw (Survey 𝓤 H A mem run .post (to-survey ν δ) v) ∷ []) ∵ updating ! $
       use1 W (later (some (λ (r : Look). ((‵ (flft (ν ∷ []) fullShare) ⊛ ‵ ftrue) ⊛ ‵ (L.the-row .own r (v ∷ []))) ⊛ raw (ensured 𝓤 H A survey.ended (survey.clauses 𝓤 H A mem run) (ν ∷ [], tt) (ref b o δ ys, (n, tt)) tt r)))) (id⊢ 𝓤 _) $ await ! tt $ pick ! (λ r.
       split ! $ move ! (1 ∷ []) $ use1 W (raw (fact 𝓤 (r ≡ lookOf ys n))) (exE 𝓤 _ (λ ws. snd∗ 𝓤 (sem 𝓤 H A (lasts survey.ended (ν ∷ [], tt) (ref b o δ ys, (n, tt)) ws)) (fact 𝓤 (r ≡ lookOf ys n)))) $ heard ! (r ≡ lookOf ys n) (λ e. split ! $ move ! (1 ∷ []) $
-      peeks ! L.the-row (Is L.the-row) (shows 𝓤 H A L.the-row) r (v ∷ []) (λ is. drop ! $ split ! $ at-once ! $ frame ! $ by ! (factI 𝓤 _ _ (ap only (L′.lowers .val-is r (v ∷ []) is) ∙ ap L′.lowered e, subst (λ (z : Look). Is L.the-row z (L′.lowered z ∷ [])) e (subst (λ (us : List Val). Is L.the-row r us) (L′.lowers .val-is r (v ∷ []) is) is))))))
+      peeks ! L.the-row (Is L.the-row) (shows 𝓤 H A L.the-row) r (v ∷ []) (λ is. drop ! $ split ! $ at-once ! $ frame ! $ by ! (factI 𝓤 _ _ (known L.the-row L′.lowered (L′.lowers .val-is) r _ v e is)))))
 
   module _ (w : ℕ) (left right : Part) where
     abbrev to-split : ℕ → GName → Split 𝓤 H A mem run .Ghost

@@ -1,6 +1,6 @@
 -- `records::survey` meets its contract: a walk of its MIR, by hand, with a loop that reads and calls. The slice is looked into once, before the loop, and shut once, after it.
 -- After i turns l is the look at the first i records. Of the two callees the proof knows only their contracts. Assumes nothing.
-use mathlib.Core.Path.{_≡_, refl, ap, subst, _∙_}
+use mathlib.Core.Path.{_≡_, refl, ap, subst}
 use mathlib.Core.List.{List, [], _∷_}
 use Prim.Native.Nat.{ℕ, _+_, _*_, _-_, _<_, _≤_, _^_, zero-le}
 use native.Mathlib.Omega.{arith}
@@ -36,7 +36,7 @@ use denote.Ref.{RefT}
 use denote.Slice.{sliceTy, sliceVal, ShrSlice, Room, slice-vals, shr-slice-tells, shr-slice-copy}
 use denote.Index.{row, looks-slice, shuts-slice}
 use denote.Signature.{plain}
-use denote.Steps.{nothing, owned, peeks, heard, only}
+use denote.Steps.{nothing, owned, peeks, heard}
 use denote.Struct.Laws as LL
 use denote.Triple.Clauses.{ensured, lasts}
 use denote.Triple.Entry.{Vals, onEntry}
@@ -51,7 +51,7 @@ use Rattle.imhof.proofs.Part as T
 use Rattle.imhof.proofs.Part.Laws as T′
 use Rattle.records.specs.declared.course.Look.{Look}
 use Rattle.records.specs.Records.{unseenOf, notedOf, lookOf}
-use Rattle.records.proofs.Walk.{PartIs, tail, inside, at-elem, elem-is, look-elem, calls-known, ref}
+use Rattle.records.proofs.Walk.{PartIs, known, tail, inside, at-elem, elem-is, look-elem, calls-known, ref}
 use Rattle.records.proofs.LookLaws.{look-none, look-next}
 use Rattle.records.proofs.course.Look as L
 use Rattle.records.proofs.course.Look.Laws as L′
@@ -102,7 +102,7 @@ module _ {M : Type 1} (𝓤 : URA M) (H : Heap 𝓤) (A : Atoms 𝓤) (W : Given
       qed W (raw (Unseen 𝓤 H A mem run .post (to-unseen p) v) ∷ []) ∵ updating ! $
       use1 W (later (some (λ (r : Look). (‵ ftrue ⊛ ‵ (L.the-row .own r (v ∷ []))) ⊛ raw (ensured 𝓤 H A unseen.ended (unseen.clauses 𝓤 H A mem run) tt (p, tt) tt r)))) (id⊢ 𝓤 _) $ await ! tt $ pick ! (λ r.
       split ! $ move ! (1 ∷ []) $ use1 W (raw (fact 𝓤 (r ≡ unseenOf p))) (exE 𝓤 _ (λ ws. snd∗ 𝓤 (sem 𝓤 H A (lasts unseen.ended tt (p, tt) ws)) (fact 𝓤 (r ≡ unseenOf p)))) $ heard ! (r ≡ unseenOf p) (λ e. split ! $ drop ! $
-      peeks ! L.the-row (Is L.the-row) (shows 𝓤 H A L.the-row) r (v ∷ []) (λ is. at-once ! $ by ! (factI 𝓤 _ _ (ap only (L′.lowers .val-is r (v ∷ []) is) ∙ ap L′.lowered e, subst (λ (z : Look). Is L.the-row z (L′.lowered z ∷ [])) e (subst (λ (us : List Val). Is L.the-row r us) (L′.lowers .val-is r (v ∷ []) is) is))))))
+      peeks ! L.the-row (Is L.the-row) (shows 𝓤 H A L.the-row) r (v ∷ []) (λ is. at-once ! $ by ! (factI 𝓤 _ _ (known L.the-row L′.lowered (L′.lowers .val-is) r _ v e is)))))
 
   abbrev to-noted : Look → ℕ → Part → Noted 𝓤 H A mem run .Ghost
   to-noted l i p = ((tt, tt, tt, (l, (i, (p, tt))), (L′.lowered l ∷ [], (vint w64 i ∷ [], (T′.lowered p ∷ [], tt)))), tt)
@@ -115,7 +115,7 @@ module _ {M : Type 1} (𝓤 : URA M) (H : Heap 𝓤) (A : Atoms 𝓤) (W : Given
       qed W (raw (Noted 𝓤 H A mem run .post (to-noted l i p) v) ∷ []) ∵ updating ! $
       use1 W (later (some (λ (r : Look). (‵ ftrue ⊛ ‵ (L.the-row .own r (v ∷ []))) ⊛ raw (ensured 𝓤 H A noted.ended (noted.clauses 𝓤 H A mem run) tt (l, (i, (p, tt))) tt r)))) (id⊢ 𝓤 _) $ await ! tt $ pick ! (λ r.
       split ! $ move ! (1 ∷ []) $ use1 W (raw (fact 𝓤 (r ≡ notedOf l i p))) (exE 𝓤 _ (λ ws. snd∗ 𝓤 (sem 𝓤 H A (lasts noted.ended tt (l, (i, (p, tt))) ws)) (fact 𝓤 (r ≡ notedOf l i p)))) $ heard ! (r ≡ notedOf l i p) (λ e. split ! $ drop ! $
-      peeks ! L.the-row (Is L.the-row) (shows 𝓤 H A L.the-row) r (v ∷ []) (λ is. at-once ! $ by ! (factI 𝓤 _ _ (ap only (L′.lowers .val-is r (v ∷ []) is) ∙ ap L′.lowered e, subst (λ (z : Look). Is L.the-row z (L′.lowered z ∷ [])) e (subst (λ (us : List Val). Is L.the-row r us) (L′.lowers .val-is r (v ∷ []) is) is))))))
+      peeks ! L.the-row (Is L.the-row) (shows 𝓤 H A L.the-row) r (v ∷ []) (λ is. at-once ! $ by ! (factI 𝓤 _ _ (known L.the-row L′.lowered (L′.lowers .val-is) r _ v e is)))))
 
 module _ {M : Type 1} (𝓤 : URA M) (H : Heap 𝓤) (A : Atoms 𝓤) (W : Given 𝓤 H A) (at-mem : Memory → SProp 𝓤) (run : Routine → Fun 𝓤) (κ : Lft) (q : Share) (b o : ℕ) (γ : GName) (ys : List Part) (n : ℕ)
     (room : Room T.the-row (length ys)) (n-fits : n < 2 ^ 64) (some-parts : 0 < n) (within : n ≤ length ys) where
