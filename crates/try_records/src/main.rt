@@ -183,7 +183,7 @@ fn try_input(file: &mut [u8]) {
     try_file(&file[..size]);
 }
 
-// Wide and reversed ranges, an empty one, and ends and weights that are not finite.
+// Wide and reversed ranges, an empty one, ends and weights that are not finite, many bisections, and a number that overflows.
 fn try_ranges() {
     let weights = [3.0f64, 1.0, 0.25, -0.5, -2.0];
     let zero = 0.0f64;
@@ -197,6 +197,10 @@ fn try_ranges() {
     let spoilt = [1.0f64, zero / zero];
     try_range(b"range", 7, &spoilt, -1.0, 1.0);
     try_range(b"range", 8, &weights[..0], -1.0, 1.0);
+    let small = [1e-308f64, 2e-308, -3e-308];
+    try_range(b"range", 9, &small, 681.4, 726.1);
+    let mixed = [1e-308f64, 0.0];
+    try_range(b"range", 10, &mixed, 690.0, 709.8);
 }
 
 fn main() {
