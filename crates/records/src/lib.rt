@@ -27,6 +27,7 @@ mod course;
 pub enum Answer {
     // The list is shorter than 2,001 records: refusal 12, place 2.
     RoomShort,
+    // The four-run form's answer: the sums and the work, or refusal 13, stage 4.
     Found(Quadrature),
 }
 
