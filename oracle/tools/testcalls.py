@@ -45,8 +45,8 @@ class Call:
 
 
 class Draws:
-    def __init__(self, seed, batch):
-        self.draws = random.Random("%d-%d" % (seed, batch))
+    def __init__(self, name):
+        self.draws = random.Random(name)
         self.u = self.draws.random
 
     def below(self, n):
@@ -193,6 +193,29 @@ def lengths(draws):
     return call
 
 
+def refused(draws):
+    """A number that is not finite, zeros, or squares that overflow."""
+    n = draws.between(2, 12)
+    call = of_floats(draws, *regression(draws, n, draws.between(1, min(3, n - 1))), draws.below(3))
+    shape = draws.below(4)
+    if shape < 2:
+        run = call.run if shape else call.residuals
+        run[draws.below(len(run))] = draws.one_of(kinds.NOT_FINITE)
+    elif shape == 2:
+        call.residuals = [draws.one_of([0, 1 << 63, 1, 0x1e00000000000000]) for _ in range(n)]
+    else:
+        call.residuals[draws.below(n)] = draws.one_of([bits(1e200), bits(-1e160), kinds.EDGES[6]])
+    return call
+
+
+def small_lengths(draws):
+    """As lengths, where there are few rows."""
+    while True:
+        call = lengths(draws)
+        if len(call.residuals) < 20:
+            return call
+
+
 def of_kind(draws):
     """A sheet of the other comparisons' kinds, of 2 to 14 rows: OLS residuals, drifts, trends, collinear, faint, noise."""
     chance = kinds.Chance(0, (2, 14), (1, 3))
@@ -211,6 +234,11 @@ ROOMS = [
     (sized(31, 64, 8, [EXACT]), 6), (sized(65, 128, 8, [EXACT]), 2), (sized(129, 256, 8, [EXACT]), 1), (sized(98, 101, 3, [DEFAULT]), 1),
     (sized(2, 30, 8, [NORMAL]), 560), (sized(31, 256, 8, [NORMAL]), 20),
     (structured, 280), (hostile, 360), (lengths, 260), (of_kind, 60),
+]
+# A light batch of 6,000 calls: fewer on the exact path, and none that the Rust itself takes long to answer.
+LIGHT = [
+    (sized(3, 8, 4, [EXACT, DEFAULT]), 600), (sized(9, 16, 6, [EXACT, DEFAULT]), 50), (sized(2, 30, 8, [NORMAL]), 3950), (sized(31, 256, 8, [NORMAL]), 100),
+    (structured, 400), (refused, 450), (small_lengths, 450),
 ]
 # What a batch of sheet files has.
 SHEETS = [
