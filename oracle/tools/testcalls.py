@@ -216,16 +216,27 @@ def small_lengths(draws):
             return call
 
 
-def of_kind(draws):
-    """A sheet of the other comparisons' kinds, of 2 to 14 rows: OLS residuals, drifts, trends, collinear, faint, noise."""
-    chance = kinds.Chance(0, (2, 14), (1, 3))
-    chance.draws = draws.draws
-    names = ["ordinary", "drift", "trend", "collinear", "ties", "scaled", "degenerate", "faint", "noise"]
-    entry = kinds.SHEETS[draws.one_of(names)](chance, draws.below(100))
+def of_entry(draws, entry):
+    """A sheet of the other comparisons' kinds, with rooms that serve it."""
     n = len(entry.residuals)
     exact = entry.choice == EXACT or entry.choice == DEFAULT and n < 100
     run = [x for column in entry.columns for x in column]
     return Call(entry.residuals, run, len(entry.columns), entry.alternative, entry.choice, *lent(draws, n, exact))
+
+
+def of_kind(draws):
+    """A sheet of 2 to 14 rows of those kinds: OLS residuals, drifts, trends, collinear, faint, noise."""
+    chance = kinds.Chance(0, (2, 14), (1, 3))
+    chance.draws = draws.draws
+    names = ["ordinary", "drift", "trend", "collinear", "ties", "scaled", "degenerate", "faint", "noise"]
+    return of_entry(draws, kinds.SHEETS[draws.one_of(names)](chance, draws.below(100)))
+
+
+def generated(draws, indexes):
+    """The generator's kinds in turn, of their own sizes."""
+    chance = kinds.Chance(0)
+    chance.draws = draws.draws
+    return [of_entry(draws, kinds.mixed(chance, index)) for index in indexes]
 
 
 # What a batch of 2,000 calls with full rooms has of each.
