@@ -194,14 +194,14 @@ def lengths(draws):
 
 
 def refused(draws):
-    """A number that is not finite, zeros, or squares that overflow."""
+    """A number that is not finite, zeros, or, now and then, squares that overflow."""
     n = draws.between(2, 12)
     call = of_floats(draws, *regression(draws, n, draws.between(1, min(3, n - 1))), draws.below(3))
-    shape = draws.below(4)
-    if shape < 2:
-        run = call.run if shape else call.residuals
+    shape = draws.below(40)
+    if shape < 30:
+        run = call.run if shape % 2 else call.residuals
         run[draws.below(len(run))] = draws.one_of(kinds.NOT_FINITE)
-    elif shape == 2:
+    elif shape < 39:
         call.residuals = [draws.one_of([0, 1 << 63, 1, 0x1e00000000000000]) for _ in range(n)]
     else:
         call.residuals[draws.below(n)] = draws.one_of([bits(1e200), bits(-1e160), kinds.EDGES[6]])
@@ -246,10 +246,10 @@ ROOMS = [
     (sized(2, 30, 8, [NORMAL]), 560), (sized(31, 256, 8, [NORMAL]), 20),
     (structured, 280), (hostile, 360), (lengths, 260), (of_kind, 60),
 ]
-# A light batch of 6,000 calls: fewer on the exact path, and none that the Rust itself takes long to answer.
+# A light batch of 6,000 calls: few that the port or the Rust takes long to answer.
 LIGHT = [
-    (sized(3, 8, 4, [EXACT, DEFAULT]), 600), (sized(9, 16, 6, [EXACT, DEFAULT]), 50), (sized(2, 30, 8, [NORMAL]), 3950), (sized(31, 256, 8, [NORMAL]), 100),
-    (structured, 400), (refused, 450), (small_lengths, 450),
+    (sized(3, 8, 4, [EXACT, DEFAULT]), 1500), (sized(9, 16, 6, [EXACT, DEFAULT]), 300), (sized(17, 30, 8, [EXACT, DEFAULT]), 60),
+    (sized(2, 30, 8, [NORMAL]), 2650), (sized(31, 256, 8, [NORMAL]), 60), (structured, 780), (refused, 300), (small_lengths, 350),
 ]
 # What a batch of sheet files has.
 SHEETS = [
