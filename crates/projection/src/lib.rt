@@ -150,12 +150,12 @@ fn products_by_one(room: &mut [f64], u: &mut [f64], w: &mut [f64], n: usize)
     requires { ⌜ (n * n + n * n ≤ length (now room)) × (length (now u) ≡ n) × (length (now w) ≡ n) ⌝ }
     ensures { λ _. ⌜ now (room .exit) ≡ symmetric (λ i j. sumOf n (λ t. entry n (part (n * n) (n * n + n * n) (now (room .entry))) i t ⊗ differenceAt (λ s. entry n (part (n * n) (n * n + n * n) (now (room .entry))) s j) n t)) n ++ drop (n * n) (now (room .entry)) ⌝ }
 {
-    let half = n * n;
-    rows::fill(&mut room[..half], -0.0);
+    let square = n * n;
+    rows::fill(&mut room[..square], -0.0);
     for t in 0..n {
         add_term(room, u, w, n, t);
     }
-    matrix::mirror(&mut room[..half], n);
+    matrix::mirror(&mut room[..square], n);
 }
 
 // M A M into the first half of the room, from M in the second: four terms at a time, and what is left one at a
