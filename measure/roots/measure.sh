@@ -15,21 +15,9 @@ for tool in "$rustc" "$cc" python3; do
 done
 echo '#include <mpfr.h>' | "$cc" -E - >/dev/null 2>&1 || { echo "measure.sh: no mpfr.h (Debian: apt-get install libmpfr-dev)" >&2; exit 1; }
 [ -f oracle/tools/strip.py ] || { echo "measure.sh: no oracle/tools/strip.py, which cuts the clauses out" >&2; exit 1; }
-mkdir -p $out/src
-# The .rt files with their clauses cut out are Rust.
-python3 - $out/src <<'PYTHON'
-import os, sys
-sys.path.insert(0, os.path.join("oracle", "tools"))
-import strip
-try:
-    files = strip.rust_of_crate(os.path.join("crates", "roots"))
-except strip.StripError as error:
-    sys.exit("measure.sh: crates/roots: %s" % error)
-for place, text in files.items():
-    with open(os.path.join(sys.argv[1], place), "w", encoding="utf-8") as stream:
-        stream.write(text)
-PYTHON
-"$rustc" --edition 2021 -O --crate-type rlib --crate-name roots --cap-lints allow -o $out/libroots.rlib $out/src/lib.rs
+mkdir -p $out
+# The .rt files with their clauses cut out are Rust; so are those of the crates below.
+python3 measure/elementary/port.py roots $out "$rustc"
 "$rustc" --edition 2021 -O --crate-type staticlib -C panic=abort -L $out --extern roots -o $out/libport.a $here/port.rs
 "$cc" -O2 -Wall -Wextra -o $out/measure $here/measure.c $out/libport.a -lmpfr -lgmp -lpthread -ldl -lm
 exec $out/measure "$count"

@@ -2,6 +2,7 @@
 # Sets up, in a folder, what it takes to compare x86-64 programs by guest instructions on any Debian bookworm:
 #   DIR/rustc   an x86-64 Rust compiler (Debian's rustc-web 1.96, whose float sums start at -0 as 1.95's do; where the machine is no
 #               x86-64 it is unpacked beside the x86-64 standard library, and the machine's own packages stay as they are)
+#   DIR/own-rustc  the same compiler for the machine itself: macros run inside the compiler
 #   DIR/cc      a C compiler and linker for x86-64
 #   DIR/count   runs an x86-64 program under qemu-user and says on standard error how many instructions it took; the processor is that
 #               of the variable CPU (qemu64 unless said)
@@ -13,7 +14,7 @@ here=$(cd "$(dirname "$0")" && pwd)
 dir=${1:-$here/../../target/speed}
 mkdir -p "$dir"
 dir=$(cd "$dir" && pwd)
-[ ! -f "$dir/ready" ] || exit 0
+[ ! -f "$dir/ready" ] || [ ! -x "$dir/own-rustc" ] || exit 0
 command -v apt-get >/dev/null || { echo "setup.sh: no apt-get: this is for a Debian" >&2; exit 1; }
 own=$(dpkg --print-architecture)
 tools="qemu-user gcc libc6-dev"
@@ -48,11 +49,15 @@ cat >"$dir/rustc" <<END
 #!/bin/sh
 LD_LIBRARY_PATH=$libraries exec "$dir/root/usr/bin/rustc" --sysroot "$dir/root/usr" --target x86_64-unknown-linux-gnu -C linker="$dir/cc" -C target-feature=+crt-static "\$@"
 END
+cat >"$dir/own-rustc" <<END
+#!/bin/sh
+LD_LIBRARY_PATH=$libraries exec "$dir/root/usr/bin/rustc" --sysroot "$dir/root/usr" -C linker=gcc "\$@"
+END
 gcc -O2 -shared -fPIC -o "$dir/icount.so" "$here/icount.c"
 cat >"$dir/count" <<END
 #!/bin/sh
 exec qemu-x86_64 -cpu "\${CPU:-qemu64}" -plugin "$dir/icount.so" "\$@"
 END
-chmod +x "$dir/cc" "$dir/rustc" "$dir/count"
+chmod +x "$dir/cc" "$dir/rustc" "$dir/own-rustc" "$dir/count"
 : >"$dir/ready"
 echo "ready: $dir/rustc, $dir/cc, $dir/count" >&2

@@ -9,7 +9,7 @@
 --      Horner's rule in z².
 --   4. The parts are added from the smallest up, and the sign of x is put back.
 -- Values: atan ±0 = ±0, atan ±infinity = ±pi/2 rounded, NaN at NaN.
--- Error: at most 0.87 units in the last place (measure/elementary/measure.sh). The constants are derived by measure/elementary/constants.py.
+-- Largest error found: 0.857 units in the last place (measure/elementary/README.md). The constants are derived by measure/elementary/constants.py.
 use Prim.Native.Nat.{ℕ}
 use mathlib.Core.Bool.{cond}
 use mathlib.Core.List.{List, [], _∷_, map}

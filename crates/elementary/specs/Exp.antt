@@ -8,7 +8,7 @@
 --   3. e ^ r = 1 + r + r² (1/2! + r/3! + .. + r¹¹/13!). y = 1 + r, rounded; what it lost goes with the small terms.
 --   4. e ^ x = 2 ^ k e ^ r, in two factors, so that a result below the normal range is rounded once.
 -- Values: e ^ ±0 = 1, e ^ +infinity = +infinity, e ^ -infinity = +0, e ^ NaN = NaN. +infinity above 709.782712893384, +0 below -745.1332191019412.
--- Error: at most 0.81 units in the last place from -745.2 to 709.8, and 0.69 where the result is normal (measure/elementary/measure.sh). The constants are derived by measure/elementary/constants.py.
+-- Largest error found: 0.710 units in the last place where the result is normal, 0.803 where it is subnormal (measure/elementary/README.md). The constants are derived by measure/elementary/constants.py.
 use Prim.Native.Nat.{ℕ, _-_, _/_, _%_}
 use mathlib.Core.Bool.{cond}
 use mathlib.Core.List.{List, [], _∷_, map}

@@ -10,7 +10,7 @@
 -- ln (1 + x): from √½ - 1 to √2 - 1 steps 2 and 3 with f = x. Else w = 1 + x, rounded; with d what it lost, ln (1 + x) = ln w + d / w.
 -- Values: ln ±0 = -infinity, ln +infinity = +infinity, NaN below 0 and at NaN, ln 1 = +0.
 --   ln (1 + ±0) = ±0, ln (1 + -1) = -infinity, ln (1 + infinity) = +infinity, NaN below -1 and at NaN.
--- Error: at most 0.90 units in the last place for ln, and for ln (1 + x) 0.86 from 0 up and 0.90 below 0 (measure/elementary/measure.sh). The constants are derived by measure/elementary/constants.py.
+-- Largest error found: 0.886 units in the last place for ln, and for ln (1 + x) 0.873 from 0 up and 0.884 below 0 (measure/elementary/README.md). The constants are derived by measure/elementary/constants.py.
 use mathlib.Core.Bool.{cond}
 use mathlib.Core.List.{List, [], _∷_, map}
 use lib.Ieee.{Float, binary64, toBits, lt, le, eq, neg}

@@ -9,7 +9,7 @@
 --   4. x is k quarter turns and r - c: the sine of r - c for k = 0 modulo 4, its cosine for 1, minus the sine for 2, minus the cosine for 3.
 --      sin r = r - r³/3! + .. + r¹⁷/17!, cos r = 1 - r²/2! + .. + r¹⁶/16!, and c goes in by the derivative.
 -- Values: sin ±0 = ±0, NaN at ±infinity and NaN.
--- Error: at most 0.82 units in the last place, to 256 and to 1647099 (measure/elementary/measure.sh). The constants are derived by measure/elementary/constants.py.
+-- Largest error found: 0.790 units in the last place to 256 in size, 0.810 from there to 1647099 (measure/elementary/README.md). The constants are derived by measure/elementary/constants.py.
 use Prim.Native.Nat.{ℕ, _%_}
 use mathlib.Core.Bool.{cond}
 use mathlib.Core.List.{List, [], _∷_, map}

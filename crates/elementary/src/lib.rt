@@ -26,7 +26,8 @@ use sine::sin_reduced;
 use tails::tail_beyond;
 
 // e^x, by k nearest to x / ln 2, e^(x - k ln 2) by Taylor's polynomial, and 2^k in two factors.
-// +infinity above 709.782712893384, +0 below -745.1332191019412, NaN at a NaN. Within 0.81 ulp.
+// +infinity above 709.782712893384, +0 below -745.1332191019412, NaN at a NaN. Error found: 0.710
+// ulp at most, 0.803 where the result is subnormal.
 pub fn exp(x: f64) -> f64
     ensures { λ r. ⌜ r ≡ expOf x ⌝ }
 {
@@ -41,7 +42,8 @@ pub fn exp(x: f64) -> f64
 }
 
 // ln x, by x = 2^k (1 + f) with f near 0, the series in f / (2 + f), and k ln 2 in two parts.
-// -infinity at both zeros, +infinity at +infinity, NaN below 0 and at a NaN. Within 0.90 ulp.
+// -infinity at both zeros, +infinity at +infinity, NaN below 0 and at a NaN. Error found: 0.886 ulp
+// at most.
 pub fn ln(x: f64) -> f64
     ensures { λ r. ⌜ r ≡ lnOf x ⌝ }
 {
@@ -61,8 +63,8 @@ pub fn ln(x: f64) -> f64
 }
 
 // ln(1 + x), by the same series at f = x where x is near 0, else by ln w + d / w, with w = 1 + x and d
-// what w lost. -0 at -0, -infinity at -1, +infinity at +infinity, NaN below -1 and at a NaN. Within
-// 0.86 ulp from 0 up, 0.90 below.
+// what w lost. -0 at -0, -infinity at -1, +infinity at +infinity, NaN below -1 and at a NaN. Error
+// found: 0.873 ulp at most from 0 up, 0.884 below.
 pub fn ln_1p(x: f64) -> f64
     ensures { λ r. ⌜ r ≡ ln1pOf x ⌝ }
 {
@@ -89,8 +91,8 @@ pub fn ln_1p(x: f64) -> f64
 }
 
 // The angle from -pi/2 to pi/2 whose tangent is x: turned back by the angle of 1/2, 1, 3/2 or
-// infinity to a tangent of at most 7/16, then an odd polynomial. -0 at -0, NaN at a NaN. Within
-// 0.87 ulp.
+// infinity to a tangent of at most 7/16, then an odd polynomial. -0 at -0, NaN at a NaN. Error
+// found: 0.857 ulp at most.
 pub fn atan(x: f64) -> f64
     ensures { λ r. ⌜ r ≡ atanOf x ⌝ }
 {
@@ -101,7 +103,8 @@ pub fn atan(x: f64) -> f64
 }
 
 // The sine of x: quarter turns taken off with pi/2 in four parts, then Taylor's polynomials. -0 at -0.
-// NaN beyond 1647099 in size, where the reduction ends, and at a NaN. Within 0.82 ulp.
+// NaN beyond 1647099 in size, where the reduction ends, and at a NaN. Error found: 0.790
+// ulp at most to 256, 0.810 beyond.
 pub fn sin(x: f64) -> f64
     ensures { λ r. ⌜ r ≡ sinOf x ⌝ }
 {

@@ -29,6 +29,42 @@ layer-row n i start end a u w h s e =
     (λ c b d. let z : c - 0 ≡ c = omega arith in rw (z, le-leb c i (omega arith)))
     (λ c q o. ⊎-elim (λ b. absurd (not-suc-le-zero b)) (λ (b : i + 1 ≤ c). rw (lt-leb c i (omega arith))) o)
 
+-- four layers at once: entry (i, j) with four products added, one after another, where j ≤ i
+module _ (n : ℕ) (a t w u x v y q z : List Float) where
+  unfoldable pub four : ℕ → ℕ → Float
+  four i j = cond (leb j i) (entry n a i j ⊕ t ‼ i ⊗ w ‼ j ⊕ u ‼ i ⊗ x ‼ j ⊕ v ‼ i ⊗ y ‼ j ⊕ q ‼ i ⊗ z ‼ j) (entry n a i j)
+
+  -- the turn of row i
+  pub four-row : (i start end : ℕ) → i < n → start ≡ i * n + 0 → end ≡ start + (i + 1)
+      → withPart start end (rowsTo n four (entry n a) i) (table (λ j. part start end (rowsTo n four (entry n a) i) ‼ j ⊕ t ‼ i ⊗ w ‼ j ⊕ u ‼ i ⊗ x ‼ j ⊕ v ‼ i ⊗ y ‼ j ⊕ q ‼ i ⊗ z ‼ j) (length (part start end (rowsTo n four (entry n a) i))))
+      ≡ rowsTo n four (entry n a) (i + 1)
+  unfolding four
+  four-row i start end h s e =
+      rows-kernel n four (entry n a) i start end 0 (i + 1) (λ j o. o ⊕ t ‼ i ⊗ w ‼ j ⊕ u ‼ i ⊗ x ‼ j ⊕ v ‼ i ⊗ y ‼ j ⊕ q ‼ i ⊗ z ‼ j) h s (omega arith) (omega arith) (omega arith)
+      (λ c b d. let o : c - 0 ≡ c = omega arith in rw (o, le-leb c i (omega arith)))
+      (λ c k o. ⊎-elim (λ b. absurd (not-suc-le-zero b)) (λ (b : i + 1 ≤ c). rw (lt-leb c i (omega arith))) o)
+
+  -- they are four layers one after another
+  pub four-layers : square four n ≡ square (layered n (square (layered n (square (layered n (square (layered n a t w) n) u x) n) v y) n) q z) n
+  unfolding layered four
+  four-layers =
+      let first = layered n a t w in
+      let second = layered n (square first n) u x in
+      let third = layered n (square second n) v y in
+      square-same n four (layered n (square third n) q z)
+      (λ i j h k. rw (entry-square n third i j h k, entry-square n second i j h k, entry-square n first i j h k) (go (leb j i) (entry n a i j) (t ‼ i ⊗ w ‼ j) (u ‼ i ⊗ x ‼ j) (v ‼ i ⊗ y ‼ j) (q ‼ i ⊗ z ‼ j)))
+    where
+      go : (b : Bool) (e f g h k : Float)
+          → cond b (e ⊕ f ⊕ g ⊕ h ⊕ k) e
+          ≡ cond b (cond b (cond b (cond b (e ⊕ f) e ⊕ g) (cond b (e ⊕ f) e) ⊕ h) (cond b (cond b (e ⊕ f) e ⊕ g) (cond b (e ⊕ f) e)) ⊕ k) (cond b (cond b (cond b (e ⊕ f) e ⊕ g) (cond b (e ⊕ f) e) ⊕ h) (cond b (cond b (e ⊕ f) e ⊕ g) (cond b (e ⊕ f) e)))
+      go true e f g h k = refl
+      go false e f g h k = refl
+
+-- the same layers by other names
+pub same-layers : (n : ℕ) (a : List Float) {t w u x v y q z t' w' u' x' v' y' q' z' : List Float} → t ≡ t' → w ≡ w' → u ≡ u' → x ≡ x' → v ≡ v' → y ≡ y' → q ≡ q' → z ≡ z'
+    → square (layered n (square (layered n (square (layered n (square (layered n a t w) n) u x) n) v y) n) q z) n ≡ square (layered n (square (layered n (square (layered n (square (layered n a t' w') n) u' x') n) v' y') n) q' z') n
+same-layers n a d e f g h i j k = rw (d, e, f, g, h, i, j, k)
+
 -- the matrix of sums, -0 where j exceeds i
 unfoldable pub sums : ℕ → (ℕ → ℕ → Float) → (ℕ → ℕ → Float) → ℕ → List Float
 sums n u w t = square (λ i j. cond (leb j i) (sumOf t (λ t. u t i ⊗ w t j)) minusZero) n

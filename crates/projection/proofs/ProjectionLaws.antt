@@ -122,6 +122,17 @@ module _ (n : ℕ) (m : List Float) where
       (λ i l. rw q (getD-table (λ i. entry n m i t) n i nan l))
       (λ j l. rw r (getD-table (λ j. differenceAt (λ s. entry n m s j) n t) n j nan l)))
 
+  -- four terms more
+  pub product-four : (t : ℕ) (b : List Float) → b ≡ productTo t → square (layered n (square (layered n (square (layered n (square (layered n b (table (λ i. entry n m i t) n) (table (λ j. differenceAt (λ s. entry n m s j) n t) n)) n) (table (λ i. entry n m i (t + 1)) n) (table (λ j. differenceAt (λ s. entry n m s j) n (t + 1)) n)) n) (table (λ i. entry n m i (t + 2)) n) (table (λ j. differenceAt (λ s. entry n m s j) n (t + 2)) n)) n) (table (λ i. entry n m i (t + 3)) n) (table (λ j. differenceAt (λ s. entry n m s j) n (t + 3)) n)) n ≡ productTo (t + 4)
+  product-four t b e =
+      let second : t + 1 + 1 ≡ t + 2 = omega arith in
+      let third : t + 2 + 1 ≡ t + 3 = omega arith in
+      let fourth : t + 3 + 1 ≡ t + 4 = omega arith in
+      product-more (t + 3) _ _ _
+      (product-more (t + 2) _ _ _
+      (product-more (t + 1) _ _ _ (product-more t b _ _ e refl refl) refl refl ∙ ap productTo second) refl refl ∙ ap productTo third) refl refl
+      ∙ ap productTo fourth
+
   pub product-all : symmetric (entry n (productTo n)) n ≡ symmetric (λ i j. sumOf n (λ t. entry n m i t ⊗ differenceAt (λ s. entry n m s j) n t)) n
   unfolding productTo sums
   product-all =

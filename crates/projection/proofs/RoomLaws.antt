@@ -9,12 +9,13 @@ use lib.Ieee.{Float}
 use Rattle.floats.specs.Words.{_⊗_, plusZero, minusZero}
 use Rattle.floats.specs.Sums.{sumOf}
 use Rattle.floats.specs.Tables.{table, square, symmetric, part, withPart}
+use Rattle.floats.proofs.TableLaws.{length-table}
 use Rattle.design.specs.Difference.{differenceAt}
 use Rattle.floats.specs.Matrix.{entry}
 use Rattle.projection.specs.Layer.{layered}
 use Rattle.projection.specs.Projection.{residual, product, residualMaker, mamOf}
 use Rattle.floats.proofs.MatrixLaws.{length-symmetric}
-use Rattle.projection.proofs.ProjectionLaws.{productTo, length-product, product-none, product-more, product-all, mam-of}
+use Rattle.projection.proofs.ProjectionLaws.{productTo, length-product, product-none, product-more, product-four, product-all, mam-of}
 
 -- a new front, and what stands behind it
 module _ (p l : List Float) {h : ℕ} (e : length p ≡ h) where
@@ -55,6 +56,14 @@ module _ (n : ℕ) (l : List Float) where
       rw (e, front-of (productTo n second t) l (length-product n second t), back-part (productTo n second t) l (length-product n second t), back-of (productTo n second t) l (length-product n second t))
       (ap (λ q. q ++ drop (n * n) l) (product-more n second t (productTo n second t) _ _ refl refl refl))
 
+  -- four terms more
+  pub terms-four : (t : ℕ) (r : List Float) → r ≡ termsTo t
+      → square (layered n (square (layered n (square (layered n (square (layered n (take (n * n) r) (table (λ i. entry n (part (n * n) (n * n + n * n) r) i t) n) (table (λ j. differenceAt (λ s. entry n (part (n * n) (n * n + n * n) r) s j) n t) n)) n) (table (λ i. entry n (part (n * n) (n * n + n * n) r) i (t + 1)) n) (table (λ j. differenceAt (λ s. entry n (part (n * n) (n * n + n * n) r) s j) n (t + 1)) n)) n) (table (λ i. entry n (part (n * n) (n * n + n * n) r) i (t + 2)) n) (table (λ j. differenceAt (λ s. entry n (part (n * n) (n * n + n * n) r) s j) n (t + 2)) n)) n) (table (λ i. entry n (part (n * n) (n * n + n * n) r) i (t + 3)) n) (table (λ j. differenceAt (λ s. entry n (part (n * n) (n * n + n * n) r) s j) n (t + 3)) n)) n ++ drop (n * n) r ≡ termsTo (t + 4)
+  unfolding termsTo
+  terms-four t r e =
+      rw (e, front-of (productTo n second t) l (length-product n second t), back-part (productTo n second t) l (length-product n second t), back-of (productTo n second t) l (length-product n second t))
+      (ap (λ q. q ++ drop (n * n) l) (product-four n second t (productTo n second t) refl))
+
   -- all terms, mirrored
   pub terms-all : (r q : List Float) → r ≡ termsTo n → q ≡ symmetric (entry n (take (n * n) r)) n
       → q ++ drop (n * n) r ≡ symmetric (λ i j. sumOf n (λ t. entry n second i t ⊗ differenceAt (λ s. entry n second s j) n t)) n ++ drop (n * n) l
@@ -71,6 +80,19 @@ module _ (n : ℕ) (p l : List Float) (e : length p ≡ n * n) where
 
   pub terms-begin : p ≡ table (λ j. minusZero) (n * n) → p ++ drop (n * n) l ≡ termsTo n (p ++ drop (n * n) l) 0
   terms-begin q = terms-none n l p q ∙ sym (terms-same 0)
+
+-- what stands after s terms is a room to go on from
+module _ (n : ℕ) (l r : List Float) (s : ℕ) (e : r ≡ termsTo n l s) where
+  pub terms-carry : (t : ℕ) → termsTo n r t ≡ termsTo n l t
+  unfolding termsTo
+  terms-carry t = ap (λ z. termsTo n z t) e ∙ terms-same n (productTo n (second n l) s) l (length-product n (second n l) s) t
+
+  pub terms-self : r ≡ termsTo n r s
+  terms-self = e ∙ sym (terms-carry s)
+
+-- a run that was filled
+pub as-long : (n : ℕ) (f : ℕ → Float) (l : List Float) → l ≡ table f n → n ≤ length l
+as-long n f l e = let h : length l ≡ n = ap length e ∙ length-table f n in omega arith
 
 -- M stored in the second half
 module _ (h : ℕ) (l m : List Float) (b : h + h ≤ length l) (e : length m ≡ h) where

@@ -95,30 +95,138 @@ fn differences(w: &mut [f64], m: &[f64], n: usize, t: usize)
     }
 }
 
+// Column t of M, which is in the second half of the room, and row t of A M: what term t of each entry is made of.
+fn load_term(room: &[f64], u: &mut [f64], w: &mut [f64], n: usize, t: usize)
+    requires { ⌜ (n * n + n * n ≤ length (now room)) × (length (now u) ≡ n) × (length (now w) ≡ n) × (t < n) ⌝ }
+    ensures { λ _. ⌜ now (u .exit) ≡ table (λ i. entry n (part (n * n) (n * n + n * n) (now (room .entry))) i t) n ⌝ }
+    ensures { λ _. ⌜ now (w .exit) ≡ table (λ j. differenceAt (λ s. entry n (part (n * n) (n * n + n * n) (now (room .entry))) s j) n t) n ⌝ }
+{
+    let half = n * n;
+    let full = half + half;
+    matrix::copy_column(u, &room[half..full], n, t);
+    differences(w, &room[half..full], n, t);
+}
+
 // Adds term t of every entry of M A M to the first half of the room, M being in the second; `u` and `w` are
 // room for a column and a row.
 fn add_term(room: &mut [f64], u: &mut [f64], w: &mut [f64], n: usize, t: usize)
     requires { ⌜ (n * n + n * n ≤ length (now room)) × (length (now u) ≡ n) × (length (now w) ≡ n) × (t < n) ⌝ }
     ensures { λ _. ⌜ now (room .exit) ≡ square (layered n (take (n * n) (now (room .entry))) (table (λ i. entry n (part (n * n) (n * n + n * n) (now (room .entry))) i t) n) (table (λ j. differenceAt (λ s. entry n (part (n * n) (n * n + n * n) (now (room .entry))) s j) n t) n)) n ++ drop (n * n) (now (room .entry)) ⌝ }
 {
+    load_term(room, u, w, n, t);
     let half = n * n;
-    let full = half + half;
-    matrix::copy_column(u, &room[half..full], n, t);
-    differences(w, &room[half..full], n, t);
     matrix::add_layer(&mut room[..half], n, u, w);
 }
 
-// M A M into the first half of the room, from M in the second.
-fn products(room: &mut [f64], u: &mut [f64], w: &mut [f64], n: usize)
+// Adds terms t to t + 3; `p` to `s` are room for four columns, `w` to `z` for four rows.
+fn add_four_terms(
+    room: &mut [f64],
+    p: &mut [f64],
+    w: &mut [f64],
+    q: &mut [f64],
+    x: &mut [f64],
+    r: &mut [f64],
+    y: &mut [f64],
+    s: &mut [f64],
+    z: &mut [f64],
+    n: usize,
+    t: usize,
+)
+    requires { ⌜ (n * n + n * n ≤ length (now room)) × (t + 4 ≤ n) × (length (now p) ≡ n) × (length (now w) ≡ n) × (length (now q) ≡ n) × (length (now x) ≡ n) × (length (now r) ≡ n) × (length (now y) ≡ n) × (length (now s) ≡ n) × (length (now z) ≡ n) ⌝ }
+    ensures { λ _. ⌜ now (room .exit) ≡ square (layered n (square (layered n (square (layered n (square (layered n (take (n * n) (now (room .entry))) (table (λ i. entry n (part (n * n) (n * n + n * n) (now (room .entry))) i t) n) (table (λ j. differenceAt (λ s. entry n (part (n * n) (n * n + n * n) (now (room .entry))) s j) n t) n)) n) (table (λ i. entry n (part (n * n) (n * n + n * n) (now (room .entry))) i (t + 1)) n) (table (λ j. differenceAt (λ s. entry n (part (n * n) (n * n + n * n) (now (room .entry))) s j) n (t + 1)) n)) n) (table (λ i. entry n (part (n * n) (n * n + n * n) (now (room .entry))) i (t + 2)) n) (table (λ j. differenceAt (λ s. entry n (part (n * n) (n * n + n * n) (now (room .entry))) s j) n (t + 2)) n)) n) (table (λ i. entry n (part (n * n) (n * n + n * n) (now (room .entry))) i (t + 3)) n) (table (λ j. differenceAt (λ s. entry n (part (n * n) (n * n + n * n) (now (room .entry))) s j) n (t + 3)) n)) n ++ drop (n * n) (now (room .entry)) ⌝ }
+{
+    let half = n * n;
+    let second = t + 1;
+    let third = t + 2;
+    let fourth = t + 3;
+    load_term(room, p, w, n, t);
+    load_term(room, q, x, n, second);
+    load_term(room, r, y, n, third);
+    load_term(room, s, z, n, fourth);
+    matrix::add_four_layers(&mut room[..half], n, p, w, q, x, r, y, s, z);
+}
+
+// M A M into the first half of the room, from M in the second, a term at a time.
+fn products_by_one(room: &mut [f64], u: &mut [f64], w: &mut [f64], n: usize)
     requires { ⌜ (n * n + n * n ≤ length (now room)) × (length (now u) ≡ n) × (length (now w) ≡ n) ⌝ }
+    ensures { λ _. ⌜ now (room .exit) ≡ symmetric (λ i j. sumOf n (λ t. entry n (part (n * n) (n * n + n * n) (now (room .entry))) i t ⊗ differenceAt (λ s. entry n (part (n * n) (n * n + n * n) (now (room .entry))) s j) n t)) n ++ drop (n * n) (now (room .entry)) ⌝ }
+{
+    let square = n * n;
+    rows::fill(&mut room[..square], -0.0);
+    for t in 0..n {
+        add_term(room, u, w, n, t);
+    }
+    matrix::mirror(&mut room[..square], n);
+}
+
+// M A M into the first half of the room, from M in the second: four terms at a time, and what is left one at a
+// time. `p` to `s` are room for four columns, `w` to `z` for four rows.
+fn products_by_four(
+    room: &mut [f64],
+    p: &mut [f64],
+    w: &mut [f64],
+    q: &mut [f64],
+    x: &mut [f64],
+    r: &mut [f64],
+    y: &mut [f64],
+    s: &mut [f64],
+    z: &mut [f64],
+    n: usize,
+)
+    requires { ⌜ (n * n + n * n ≤ length (now room)) × (n ≤ 256) × (length (now p) ≡ n) × (length (now w) ≡ n) × (length (now q) ≡ n) × (length (now x) ≡ n) × (length (now r) ≡ n) × (length (now y) ≡ n) × (length (now s) ≡ n) × (length (now z) ≡ n) ⌝ }
     ensures { λ _. ⌜ now (room .exit) ≡ symmetric (λ i j. sumOf n (λ t. entry n (part (n * n) (n * n + n * n) (now (room .entry))) i t ⊗ differenceAt (λ s. entry n (part (n * n) (n * n + n * n) (now (room .entry))) s j) n t)) n ++ drop (n * n) (now (room .entry)) ⌝ }
 {
     let half = n * n;
     rows::fill(&mut room[..half], -0.0);
-    for t in 0..n {
-        add_term(room, u, w, n, t);
+    let mut t = 0usize;
+    while t + 4 <= n {
+        add_four_terms(room, p, w, q, x, r, y, s, z, n, t);
+        t = t + 4;
+    }
+    while t < n {
+        add_term(room, p, w, n, t);
+        t = t + 1;
     }
     matrix::mirror(&mut room[..half], n);
+}
+
+// The same, with room of its own.
+fn products_of_many(room: &mut [f64], n: usize)
+    requires { ⌜ (n * n + n * n ≤ length (now room)) × (n ≤ 256) ⌝ }
+    ensures { λ _. ⌜ now (room .exit) ≡ symmetric (λ i j. sumOf n (λ t. entry n (part (n * n) (n * n + n * n) (now (room .entry))) i t ⊗ differenceAt (λ s. entry n (part (n * n) (n * n + n * n) (now (room .entry))) s j) n t)) n ++ drop (n * n) (now (room .entry)) ⌝ }
+{
+    let mut p = [0.0f64; 256];
+    let mut q = [0.0f64; 256];
+    let mut r = [0.0f64; 256];
+    let mut s = [0.0f64; 256];
+    let mut w = [0.0f64; 256];
+    let mut x = [0.0f64; 256];
+    let mut y = [0.0f64; 256];
+    let mut z = [0.0f64; 256];
+    products_by_four(
+        room,
+        &mut p[..n],
+        &mut w[..n],
+        &mut q[..n],
+        &mut x[..n],
+        &mut r[..n],
+        &mut y[..n],
+        &mut s[..n],
+        &mut z[..n],
+        n,
+    );
+}
+
+// M A M into the first half of the room, from M in the second. With few rows the room for four terms costs more than it saves.
+fn products(room: &mut [f64], u: &mut [f64], w: &mut [f64], n: usize)
+    requires { ⌜ (n * n + n * n ≤ length (now room)) × (n ≤ 256) × (length (now u) ≡ n) × (length (now w) ≡ n) ⌝ }
+    ensures { λ _. ⌜ now (room .exit) ≡ symmetric (λ i j. sumOf n (λ t. entry n (part (n * n) (n * n + n * n) (now (room .entry))) i t ⊗ differenceAt (λ s. entry n (part (n * n) (n * n + n * n) (now (room .entry))) s j) n t)) n ++ drop (n * n) (now (room .entry)) ⌝ }
+{
+    if n < 16 {
+        products_by_one(room, u, w, n);
+    } else {
+        products_of_many(room, n);
+    }
 }
 
 // M into the second half of the room, then M A M into the first.
@@ -131,7 +239,7 @@ fn fill_room(
     n: usize,
     k: usize,
 )
-    requires { ⌜ (n * n + n * n ≤ length (now room)) × (length (now u) ≡ n) × (length (now w) ≡ n) × (length (now x) ≡ k * n) × (k ≤ 8) ⌝ }
+    requires { ⌜ (n * n + n * n ≤ length (now room)) × (length (now u) ≡ n) × (length (now w) ≡ n) × (length (now x) ≡ k * n) × (k ≤ 8) × (n ≤ 256) ⌝ }
     ensures { λ _. ⌜ now (room .exit) ≡ mamOf (now (x .entry)) (now (inv .entry)) n k ++ (residualMaker (now (x .entry)) (now (inv .entry)) n k ++ drop (n * n + n * n) (now (room .entry))) ⌝ }
 {
     let half = n * n;

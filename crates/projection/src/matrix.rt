@@ -41,6 +41,29 @@ pub fn add_layer(a: &mut [f64], n: usize, u: &[f64], w: &[f64])
     }
 }
 
+// Four layers, one after another.
+pub fn add_four_layers(
+    a: &mut [f64],
+    n: usize,
+    t: &[f64],
+    w: &[f64],
+    u: &[f64],
+    x: &[f64],
+    v: &[f64],
+    y: &[f64],
+    q: &[f64],
+    z: &[f64],
+)
+    requires { ⌜ (length (now a) ≡ n * n) × (n ≤ length (now t)) × (n ≤ length (now w)) × (n ≤ length (now u)) × (n ≤ length (now x)) × (n ≤ length (now v)) × (n ≤ length (now y)) × (n ≤ length (now q)) × (n ≤ length (now z)) ⌝ }
+    ensures { λ _. ⌜ now (a .exit) ≡ square (layered n (square (layered n (square (layered n (square (layered n (now (a .entry)) (now (t .entry)) (now (w .entry))) n) (now (u .entry)) (now (x .entry))) n) (now (v .entry)) (now (y .entry))) n) (now (q .entry)) (now (z .entry))) n ⌝ }
+{
+    for i in 0..n {
+        let start = place(n, i, 0);
+        let end = start + (i + 1);
+        super::rows::add_four(&mut a[start..end], t[i], w, u[i], x, v[i], y, q[i], z);
+    }
+}
+
 // Adds 1 to the entries on the diagonal.
 pub fn add_identity(a: &mut [f64], n: usize)
     requires { ⌜ length (now a) ≡ n * n ⌝ }

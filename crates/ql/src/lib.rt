@@ -4,7 +4,10 @@
 ghost use mathlib.Core.Path.{_≡_};
 ghost use Prim.Native.Nat.{_+_, _*_, _^_, _≤_, _<_};
 ghost use lib.ListN.{length};
-ghost use Rattle.ql.specs.Rotation.{negligible, rotated};
+ghost use lib.Ieee.{le};
+ghost use Rattle.floats.specs.Words.{_⊕_, _⊗_, float};
+ghost use Rattle.floats.specs.Signs.{absOf};
+ghost use Rattle.ql.specs.Rotation.{rotated};
 ghost use Rattle.ql.specs.Sweep.{blockEnd, shiftOf, sweepOf};
 ghost use Rattle.ql.specs.Ql.{settled, qlOf};
 use floats::tally::Tally;
@@ -26,12 +29,11 @@ struct Rotated {
     flat: bool,
 }
 
-// Whether the coupling `e` is negligible beside the diagonal entries that it couples.
+// Whether the coupling `e` is negligible beside diagonal entries of the sizes `above` and `below`.
 fn is_negligible(e: f64, above: f64, below: f64) -> bool
-    ensures { λ r. ⌜ r ≡ negligible e above below ⌝ }
+    ensures { λ r. ⌜ r ≡ le (absOf e) (float 0x3cb0000000000000 ⊗ (above ⊕ below)) ⌝ }
 {
-    let size = floats::signs::abs(above) + floats::signs::abs(below);
-    floats::signs::abs(e) <= 2.220446049250313e-16 * size
+    floats::signs::abs(e) <= 2.220446049250313e-16 * (above + below)
 }
 
 // The last index of the block that begins at `l`: the first from `l` on whose coupling is
@@ -42,11 +44,14 @@ fn block_end(d: &[f64], e: &[f64], n: usize, l: usize) -> usize
     ensures { λ r. ⌜ r ≡ blockEnd n (now (d .entry)) (now (e .entry)) l ⌝ }
 {
     let most = n - 1 - l;
+    let mut above = floats::signs::abs(d[l]);
     for t in 0..most {
         let m = l + t;
-        if is_negligible(e[m], d[m], d[m + 1]) {
+        let below = floats::signs::abs(d[m + 1]);
+        if is_negligible(e[m], above, below) {
             return m;
         }
+        above = below;
     }
     n - 1
 }

@@ -1,4 +1,5 @@
 pub mod Squares
+pub mod Halves
 pub mod Ladder
 pub mod Rounding
 pub mod Assemble

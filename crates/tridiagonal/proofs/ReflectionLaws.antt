@@ -61,6 +61,38 @@ module _ (n c : ℕ) (a v : List Float) where
         add-one t,
       )))
 
+  -- row k of S in the run that holds a
+  module _ (e : length a ≡ n * n) (o : c + 1 < n) (k start m : ℕ) (l : k < below n c) (y : m ≡ below n c) (z : start ≡ (c + 1 + k) * n + (c + 1)) where
+    pub row-long : length (part start (start + m) a) ≡ below n c
+    row-long =
+        let b : start + m ≤ length a = omega (arith, row-apart n {i = c + 1 + k} {r = n} (omega arith)) in
+        length-part a {a = start} {e = start + m} (omega arith) b ∙ omega arith
+
+    pub row-at : (i : ℕ) → i < below n c → part start (start + m) a ‼ i ≡ entry n a (c + 1 + k) (c + 1 + i)
+    row-at i b =
+        let w : start + m ≡ (c + 1 + k) * n + n = omega arith in
+        rw (w, z) (part-entry n (c + 1 + k) (c + 1) n i a e (omega arith) (omega arith) (omega arith) b)
+
+  -- rows t to t + 3 of S, each times its number of v, added
+  pub four-rows : (p : List Float) (t f s h q m : ℕ) → length a ≡ n * n → c + 1 < n → t + 4 ≤ below n c → m ≡ below n c → length p ≡ below n c
+      → f ≡ (c + 1 + t) * n + (c + 1) → s ≡ (c + 1 + (t + 1)) * n + (c + 1) → h ≡ (c + 1 + (t + 2)) * n + (c + 1) → q ≡ (c + 1 + (t + 3)) * n + (c + 1)
+      → table (λ i. p ‼ i ⊕ part f (f + m) a ‼ i ⊗ v ‼ t ⊕ part s (s + m) a ‼ i ⊗ v ‼ (t + 1) ⊕ part h (h + m) a ‼ i ⊗ v ‼ (t + 2) ⊕ part q (q + m) a ‼ i ⊗ v ‼ (t + 3)) (length p) ≡ table (λ i. p ‼ i ⊕ entry n a (c + 1 + t) (c + 1 + i) ⊗ v ‼ t ⊕ entry n a (c + 1 + (t + 1)) (c + 1 + i) ⊗ v ‼ (t + 1) ⊕ entry n a (c + 1 + (t + 2)) (c + 1 + i) ⊗ v ‼ (t + 2) ⊕ entry n a (c + 1 + (t + 3)) (c + 1 + i) ⊗ v ‼ (t + 3)) (below n c)
+  four-rows p t f s h q m e o l y d zf zs zh zq =
+      rw d
+      (table-same (λ i. p ‼ i ⊕ part f (f + m) a ‼ i ⊗ v ‼ t ⊕ part s (s + m) a ‼ i ⊗ v ‼ (t + 1) ⊕ part h (h + m) a ‼ i ⊗ v ‼ (t + 2) ⊕ part q (q + m) a ‼ i ⊗ v ‼ (t + 3)) (λ i. p ‼ i ⊕ entry n a (c + 1 + t) (c + 1 + i) ⊗ v ‼ t ⊕ entry n a (c + 1 + (t + 1)) (c + 1 + i) ⊗ v ‼ (t + 1) ⊕ entry n a (c + 1 + (t + 2)) (c + 1 + i) ⊗ v ‼ (t + 2) ⊕ entry n a (c + 1 + (t + 3)) (c + 1 + i) ⊗ v ‼ (t + 3)) (below n c)
+      (λ i k. rw (row-at e o t f m (omega arith) y zf i k, row-at e o (t + 1) s m (omega arith) y zs i k, row-at e o (t + 2) h m (omega arith) y zh i k, row-at e o (t + 3) q m (omega arith) y zq i k)))
+
+  -- four rows more
+  pub image-four : (t : ℕ) → table (λ i. imageTo t ‼ i ⊕ entry n a (c + 1 + t) (c + 1 + i) ⊗ v ‼ t ⊕ entry n a (c + 1 + (t + 1)) (c + 1 + i) ⊗ v ‼ (t + 1) ⊕ entry n a (c + 1 + (t + 2)) (c + 1 + i) ⊗ v ‼ (t + 2) ⊕ entry n a (c + 1 + (t + 3)) (c + 1 + i) ⊗ v ‼ (t + 3)) (below n c) ≡ imageTo (t + 4)
+  unfolding imageTo sumOf
+  image-four t =
+      let second : t + 1 ≡ suc t = omega arith in
+      let third : t + 2 ≡ suc (suc t) = omega arith in
+      let fourth : t + 3 ≡ suc (suc (suc t)) = omega arith in
+      let all : t + 4 ≡ suc (suc (suc (suc t))) = omega arith in
+      table-same (λ i. imageTo t ‼ i ⊕ entry n a (c + 1 + t) (c + 1 + i) ⊗ v ‼ t ⊕ entry n a (c + 1 + (t + 1)) (c + 1 + i) ⊗ v ‼ (t + 1) ⊕ entry n a (c + 1 + (t + 2)) (c + 1 + i) ⊗ v ‼ (t + 2) ⊕ entry n a (c + 1 + (t + 3)) (c + 1 + i) ⊗ v ‼ (t + 3)) (λ i. sumOf (t + 4) (λ j. entry n a (c + 1 + j) (c + 1 + i) ⊗ v ‼ j)) (below n c)
+      (λ i k. rw (getD-table (λ i. sumOf t (λ j. entry n a (c + 1 + j) (c + 1 + i) ⊗ v ‼ j)) (below n c) i nan k, second, third, fourth, all))
+
   pub image-all : c + 1 < n → Symmetric n a → imageTo (below n c) ≡ imageOf n c a v
   unfolding imageTo imageOf
   image-all h s =

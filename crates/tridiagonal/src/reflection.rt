@@ -40,16 +40,50 @@ fn signed(norm: f64, first: f64) -> f64
     if first > 0.0 { -norm } else { norm }
 }
 
-// S v.
+// Adds rows t to t + 3 of S, each times its number of v.
+fn add_four_rows(p: &mut [f64], a: &[f64], n: usize, c: usize, v: &[f64], t: usize)
+    requires { ⌜ (length (now p) ≡ below n c) × (length (now v) ≡ below n c) × (length (now a) ≡ n * n) × (c + 1 < n) × (t + 4 ≤ below n c) ⌝ }
+    ensures { λ _. ⌜ now (p .exit) ≡ table (λ i. now (p .entry) ‼ i ⊕ entry n (now (a .entry)) (c + 1 + t) (c + 1 + i) ⊗ now (v .entry) ‼ t ⊕ entry n (now (a .entry)) (c + 1 + (t + 1)) (c + 1 + i) ⊗ now (v .entry) ‼ (t + 1) ⊕ entry n (now (a .entry)) (c + 1 + (t + 2)) (c + 1 + i) ⊗ now (v .entry) ‼ (t + 2) ⊕ entry n (now (a .entry)) (c + 1 + (t + 3)) (c + 1 + i) ⊗ now (v .entry) ‼ (t + 3)) (below n c) ⌝ }
+{
+    let m = v.len();
+    let first = place(n, c + 1 + t, c + 1);
+    let second = place(n, c + 1 + (t + 1), c + 1);
+    let third = place(n, c + 1 + (t + 2), c + 1);
+    let fourth = place(n, c + 1 + (t + 3), c + 1);
+    let first_end = first + m;
+    let second_end = second + m;
+    let third_end = third + m;
+    let fourth_end = fourth + m;
+    super::rows::add_four(
+        p,
+        &a[first..first_end],
+        v[t],
+        &a[second..second_end],
+        v[t + 1],
+        &a[third..third_end],
+        v[t + 2],
+        &a[fourth..fourth_end],
+        v[t + 3],
+    );
+}
+
+// S v: four rows of S at a time, and what is left one at a time.
 fn image(p: &mut [f64], a: &[f64], n: usize, c: usize, v: &[f64])
     requires { ⌜ (length (now p) ≡ below n c) × (length (now v) ≡ below n c) × (length (now a) ≡ n * n) × (c + 1 < n) × (Symmetric n (now a)) ⌝ }
     ensures { λ _. ⌜ now (p .exit) ≡ imageOf n c (now (a .entry)) (now (v .entry)) ⌝ }
 {
     super::rows::fill(p, -0.0);
-    for t in 0..v.len() {
+    let m = v.len();
+    let mut t = 0usize;
+    while t + 4 <= m {
+        add_four_rows(p, a, n, c, v, t);
+        t = t + 4;
+    }
+    while t < m {
         let start = place(n, c + 1 + t, c + 1);
-        let end = start + v.len();
+        let end = start + m;
         super::rows::add_multiple(p, &a[start..end], v[t]);
+        t = t + 1;
     }
 }
 

@@ -36,6 +36,26 @@ pub fn add_multiple(row: &mut [f64], xs: &[f64], w: f64)
     }
 }
 
+// Adds four multiples, one after another: each number of `row` is read and written once for the four.
+pub fn add_four(
+    row: &mut [f64],
+    xs: &[f64],
+    a: f64,
+    ys: &[f64],
+    b: f64,
+    zs: &[f64],
+    c: f64,
+    ws: &[f64],
+    d: f64,
+)
+    requires { ⌜ (length (now row) ≤ length (now xs)) × (length (now row) ≤ length (now ys)) × (length (now row) ≤ length (now zs)) × (length (now row) ≤ length (now ws)) ⌝ }
+    ensures { λ _. ⌜ now (row .exit) ≡ table (λ j. now (row .entry) ‼ j ⊕ now (xs .entry) ‼ j ⊗ a ⊕ now (ys .entry) ‼ j ⊗ b ⊕ now (zs .entry) ‼ j ⊗ c ⊕ now (ws .entry) ‼ j ⊗ d) (length (now (row .entry))) ⌝ }
+{
+    for j in 0..row.len() {
+        row[j] = row[j] + xs[j] * a + ys[j] * b + zs[j] * c + ws[j] * d;
+    }
+}
+
 // Every number of `row`, doubled and over w.
 pub fn double_over(row: &mut [f64], w: f64)
     ensures { λ _. ⌜ now (row .exit) ≡ table (λ j. two ⊗ now (row .entry) ‼ j ⊘ w) (length (now (row .entry))) ⌝ }

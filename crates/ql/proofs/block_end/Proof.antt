@@ -1,42 +1,124 @@
-use Rattle.floats.specs.Words.{_‼_}
+-- After t turns none of the first t couplings is negligible, and `above` is the size of the diagonal entry that the next one couples. Assumes nothing.
+use mathlib.Core.Bool.{Bool}
+use lib.Ieee.{Float, le}
+use Rattle.floats.specs.Words.{_⊕_, _⊗_, _‼_, float}
+use Rattle.floats.specs.Signs.{absOf}
 use Rattle.floats.specs.Search.{firstWhere}
 use Rattle.floats.specs.declared.search.Found.the-variants.{Nothing}
 use Rattle.floats.proofs.FirstLaws.{first-at, first-not}
 use Rattle.ql.specs.Rotation.{negligible}
 use Rattle.ql.specs.Sweep.{blockEnd, endAt}
-use Prim.Native.Nat.{_≤_, _-_, _+_}
+use Prim.Native.Nat.{ℕ, zero, suc, _≤_, _<_, _-_, _*_, _+_}
 use native.Mathlib.Omega.{arith}
+use native.Mathlib.Numerals.{add-one}
 use native.Mathlib.Nat.{le-antisymm}
 use mathlib.Core.Path.{_≡_, refl, ap, sym, _∙_}
+use lib.ListN.{length, getD, set, length-set}
 use borrow.Author.Needs.{needs}
 use Rattle.ql.proofs.block_end.Statement.{statement}
 use Rattle.ql.proofs.block_end.Tie as tie
+use Rattle.ql.proofs.block_end.Reads as reads
+use Rattle.ql.proofs.block_end.Lts as lts
+use Rattle.floats.proofs.signs.abs.Reads as abs-reads
+use Rattle.ql.proofs.is_negligible.Reads as is-negligible-reads
+
+-- what the test says, from the sizes at hand
+said : (r : Bool) (e a b above below : Float) → r ≡ le (absOf e) (float 0x3cb0000000000000 ⊗ (above ⊕ below)) → above ≡ absOf a → below ≡ absOf b → negligible e a b ≡ r
+unfolding negligible
+said r e a b above below q x y = sym (rw (x, y) at q)
 
 abbrev Inv-loop : tie.InvT-loop
-Inv-loop d e n l most t₀ t = (t ≤ most) × (firstWhere t (λ t. negligible (e ‼ (l + t)) (d ‼ (l + t)) (d ‼ (l + t + 1))) ≡ Nothing)
+Inv-loop d e n l most above₀ t₀ above t = (t ≤ most) × (above ≡ absOf (d ‼ (l + t))) × (firstWhere t (λ t. negligible (e ‼ (l + t)) (d ‼ (l + t)) (d ‼ (l + t + 1))) ≡ Nothing)
 
 abbrev μ-loop : tie.MeasureT-loop
-μ-loop d e n l most t₀ t = most - t
+μ-loop d e n l most above₀ t₀ above t = most - t
+
+sub-most : tie.Need-sub-most Inv-loop μ-loop
+sub-most c = search needs
+
+sub-most-2 : tie.Need-sub-most-2 Inv-loop μ-loop
+sub-most-2 c = search needs
+
+mul-abs : tie.Need-mul-abs Inv-loop μ-loop
+mul-abs c = search needs
+
+shared-slice-read-abs : tie.Need-shared-slice-read-abs Inv-loop μ-loop
+shared-slice-read-abs c = search needs
+
+abs-requires : tie.Need-abs-requires Inv-loop μ-loop
+abs-requires c κs = search needs
 
 loop-holds : tie.Need-loop-holds Inv-loop μ-loop
 unfolding firstWhere
-loop-holds c = (omega arith, refl)
+loop-holds c = (omega arith, c .abs .ensures ∙ ap (λ (i : ℕ). absOf (c .before .before .before .before .args .d .now ‼ i)) (omega arith), refl)
+
+add-m : tie.Need-add-m Inv-loop μ-loop
+add-m c = search needs
+
+add-abs : tie.Need-add-abs Inv-loop μ-loop
+add-abs c = search needs
+
+mul-abs-2 : tie.Need-mul-abs-2 Inv-loop μ-loop
+mul-abs-2 c = search needs
+
+shared-slice-read-abs-2 : tie.Need-shared-slice-read-abs-2 Inv-loop μ-loop
+shared-slice-read-abs-2 c = search needs
+
+abs-requires-2 : tie.Need-abs-requires-2 Inv-loop μ-loop
+abs-requires-2 c κs = search needs
+
+mul-is-negligible : tie.Need-mul-is-negligible Inv-loop μ-loop
+mul-is-negligible c = search needs
+
+shared-slice-read-is-negligible : tie.Need-shared-slice-read-is-negligible Inv-loop μ-loop
+shared-slice-read-is-negligible c = search needs
+
+is-negligible-requires : tie.Need-is-negligible-requires Inv-loop μ-loop
+is-negligible-requires c κs = search needs
 
 returns : tie.Need-returns Inv-loop μ-loop
 unfolding blockEnd
-returns c = ((omega arith, omega arith), sym (ap (endAt (c .before .before .before .before .before .before .before .before .before .args .n) (c .before .before .before .before .before .before .before .before .before .args .l)) (first-at _ {n = c .before .before .before .before .before .before .before .before .before .args .n - 1 - c .before .before .before .before .before .before .before .before .before .args .l} {i = c .before .before .before .before .before .before .loop .t} (omega arith) (c .before .before .before .before .before .before .loop .inv .1) (sym (c .before .is-negligible .ensures) ∙ c .if1 .taken))))
+returns c = ((omega arith, omega arith), sym (ap (endAt (c .before .before .before .before .before .before .before .before .before .before .before .args .n) (c .before .before .before .before .before .before .before .before .before .before .before .args .l)) (first-at _ {n = c .before .before .before .before .before .before .before .before .before .before .before .args .n - 1 - c .before .before .before .before .before .before .before .before .before .before .before .args .l} {i = c .before .before .before .before .before .before .loop .t} (omega arith) (c .before .before .before .before .before .before .loop .inv .2) ((said _ _ _ _ _ _ (c .before .is-negligible .ensures) (c .before .before .before .before .before .before .loop .inv .1) (c .before .before .before .abs2 .ensures)) ∙ c .if1 .taken))))
+
+add-t : tie.Need-add-t Inv-loop μ-loop
+add-t c = search needs
+
+loop-less : tie.Need-loop-less Inv-loop μ-loop
+loop-less c = search needs
 
 loop-again : tie.Need-loop-again Inv-loop μ-loop
-loop-again c = (omega arith, first-not _ _ (c .before .before .before .before .before .before .loop .inv .1) (sym (c .before .is-negligible .ensures) ∙ c .if1 .left))
+loop-again c = (omega arith, c .before .before .before .abs2 .ensures ∙ ap (λ (i : ℕ). absOf (c .before .before .before .before .before .before .before .before .before .before .before .args .d .now ‼ i)) (omega arith), first-not _ _ (c .before .before .before .before .before .before .loop .inv .2) ((said _ _ _ _ _ _ (c .before .is-negligible .ensures) (c .before .before .before .before .before .before .loop .inv .1) (c .before .before .before .abs2 .ensures)) ∙ c .if1 .left))
+
+sub-result : tie.Need-sub-result Inv-loop μ-loop
+sub-result c = search needs
 
 returns-2 : tie.Need-returns-2 Inv-loop μ-loop
 unfolding blockEnd
-returns-2 c = ((omega arith, omega arith), sym (ap (endAt (c .before .before .before .before .args .n) (c .before .before .before .before .args .l)) (rw (le-antisymm (c .before .loop .inv .0) (c .loop-test .left)) at (c .before .loop .inv .1))))
+returns-2 c = ((omega arith, omega arith), sym (ap (endAt (c .before .before .before .before .before .before .args .n) (c .before .before .before .before .before .before .args .l)) (rw (le-antisymm (c .before .loop .inv .0) (c .loop-test .left)) at (c .before .loop .inv .2))))
 
 pub block-end-spec : {M : Type 1} → statement M
 block-end-spec =
     tie.close
-    (tie.spec Inv-loop μ-loop (λ c. search needs) (λ c. search needs) loop-holds (λ c. search needs)
-    (λ c. search needs) (λ c. search needs) (λ c. search needs) (λ c. search needs) (λ c. search needs)
-    (λ c. search needs) (λ c. search needs) (λ c κs. search needs) returns (λ c. search needs)
-    (λ c. search needs) loop-again (λ c. search needs) returns-2)
+    (tie.spec
+    Inv-loop
+    μ-loop
+    sub-most
+    sub-most-2
+    mul-abs
+    shared-slice-read-abs
+    abs-requires
+    loop-holds
+    add-m
+    add-abs
+    mul-abs-2
+    shared-slice-read-abs-2
+    abs-requires-2
+    mul-is-negligible
+    shared-slice-read-is-negligible
+    is-negligible-requires
+    returns
+    add-t
+    loop-less
+    loop-again
+    sub-result
+    returns-2)

@@ -42,7 +42,7 @@ float-from-bits-result-2 : tie.Need-float-from-bits-result-2
 float-from-bits-result-2 c = known (c .root-bits2 .result) (c .root-bits2 .ensures .finite)
 
 returns-4 : tie.Need-returns-4
-returns-4 c = c .root-bits2 .ensures .value ∙ ap rootOf (normal (bits (c .before .before)) (c .before .if4 .left)) ∙ sym (above (c .before .before) .root)
+returns-4 c = c .root-bits2 .ensures .value ∙ ap rootOf (normal (bits (c .before .before .before)) (c .before .before .if4 .left)) ∙ sym (above (c .before .before .before) .root)
 
 returns-5 : tie.Need-returns-5
 returns-5 c = level (c .before .before .args .x) (c .before .if1 .left) (c .if2 .left)
@@ -55,5 +55,5 @@ sqrt-spec =
     (λ c. omega (arith, shifted c .most)) (λ c. omega (arith, shifted c .most))
     (λ c. omega (arith, shifted c .most)) (λ c. omega (arith, shifted c .most)) root-bits-requires
     (λ c. known (c .root-bits .result) (c .root-bits .ensures .finite)) returns-3 (λ c. search needs)
-    (λ c. omega (arith, above (c .before) .below)) (λ c κs. omega (arith, above (c .before) .below))
+    (λ c. omega (arith, above (c .before) .below)) (λ c κs. omega (arith, above (c .before) .below)) (λ c κs. omega (arith, above (c .before .before) .below))
     float-from-bits-result-2 returns-4 returns-5)

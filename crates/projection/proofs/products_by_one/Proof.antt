@@ -10,8 +10,8 @@ use native.Mathlib.Nat.{le-antisymm}
 use mathlib.Core.Path.{_≡_, refl, ap, sym, _∙_}
 use lib.ListN.{length}
 use borrow.Author.Needs.{needs}
-use Rattle.projection.proofs.products.Statement.{statement}
-use Rattle.projection.proofs.products.Tie as tie
+use Rattle.projection.proofs.products_by_one.Statement.{statement}
+use Rattle.projection.proofs.products_by_one.Tie as tie
 
 abbrev Inv-loop : tie.InvT-loop
 Inv-loop room₀ u₀ w₀ n half t₀ room u w t = (t ≤ n) × (length room ≡ length room₀) × (length u ≡ n) × (length w ≡ n) × (room ≡ termsTo n room₀ t) × (n * n + n * n ≤ length room)
@@ -37,8 +37,8 @@ mirror-requires c κs = sym (half-lent _ (c .before .before .loop .room) (c .bef
 returns : tie.Need-returns Inv-loop μ-loop
 returns c = let e = c .before .before .before .before .before .before .before .before .fill .ensures ∙ ap (table (λ j. minusZero)) (sym (half-lent _ (c .before .before .before .before .before .before .before .before .before .before .before .before .before .args .room .now) (c .before .before .before .before .before .before .before .before .before .before .before .before .before .pre .0))) in terms-all (c .before .before .before .before .before .before .before .before .before .before .before .before .before .args .n) (c .before .before .before .before .before .before .before .before .before .before .before .before .before .args .room .now) (c .before .before .before .before .before .loop .room) (c .before .before .mirror .last .0) (c .before .before .before .before .before .loop .inv .4 ∙ terms-same _ (c .before .before .before .before .before .before .before .before .fill .last .0) (c .before .before .before .before .before .before .before .before .before .before .before .before .before .args .room .now) (ap length e ∙ length-table _ _) _ ∙ ap (termsTo (c .before .before .before .before .before .before .before .before .before .before .before .before .before .args .n) (c .before .before .before .before .before .before .before .before .before .before .before .before .before .args .room .now)) (le-antisymm (c .before .before .before .before .before .loop .inv .0) (c .before .before .before .before .loop-test .left))) (c .before .before .mirror .ensures)
 
-pub products-spec : {M : Type 1} → statement M
-products-spec =
+pub products-by-one-spec : {M : Type 1} → statement M
+products-by-one-spec =
     tie.close
     (tie.spec Inv-loop μ-loop (λ c. search needs) (λ c. search needs) slice-aggregate-fill
     (λ c κs. search needs) loop-holds (λ c κs. search needs) (λ c. search needs) (λ c. search needs)
