@@ -1,7 +1,7 @@
 // Calls of the test read from standard input, with rooms for 256 rows; one line a call. The stored input is made by cases.py and the stored lines come
 // from the oracle; oracle/at-scale compares other input the same way.
-// A call is 7 words of 8 bytes, the least byte first: how many residuals, how many numbers of columns, k, alternative (0 greater, 1 less, else two-sided),
-// choice (0 default, 1 exact, else normal), how many numbers of the matrix room and of the part room are lent; then the patterns of the residuals
+// A call is 7 words of 8 bytes, the least byte first: how many residuals, how many numbers of columns, k, the codes of the alternative and of the choice (the
+// least byte alone is read), how many numbers of the matrix room and of the part room are lent; then the patterns of the residuals
 // and of the columns' numbers. The line: the sheet program's fields, then n and alternative of the answer, the law's mean and variance, and a
 // word for each room: 0 it is as it was in every bit, 1 its first 2n² (8,004) numbers are +0 and the others as they were, 2 anything else.
 mod print;
@@ -21,23 +21,11 @@ const MOST_CALLS: usize = 1_000_000;
 const MOST_NUMBERS: usize = 4096;
 
 fn alternative_of(code: u64) -> Alternative {
-    if code == 0 {
-        return Alternative::Greater;
-    }
-    if code == 1 {
-        return Alternative::Less;
-    }
-    Alternative::TwoSided
+    fields::alternative_of((code % 256) as u8)
 }
 
 fn choice_of(code: u64) -> Choice {
-    if code == 0 {
-        return Choice::Default;
-    }
-    if code == 1 {
-        return Choice::Exact;
-    }
-    Choice::Normal
+    fields::choice_of((code % 256) as u8)
 }
 
 // The numbers whose patterns stand in `bytes`, at the start of `run`.

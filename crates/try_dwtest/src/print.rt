@@ -5,10 +5,6 @@ use floats::bits::bits_of;
 use libc::STDOUT_FILENO;
 use sheet::lines::Fields;
 
-fn mark(b: bool) -> u64 {
-    if b { 1 } else { 0 }
-}
-
 fn code_of(alternative: Alternative) -> u64 {
     match alternative {
         Alternative::Greater => 0,
@@ -38,22 +34,7 @@ fn print_fields(fields: Fields) {
 }
 
 pub fn print_outcome(i: usize, o: Outcome) {
-    let why = o.refusal;
-    let work = o.work;
-    print_fields(Fields {
-        index: i as u64,
-        refusal: why.number as u64,
-        place: why.place as u64,
-        statistic_bits: bits_of(o.statistic),
-        p_bits: bits_of(o.p),
-        path: o.path as u64,
-        fallback: mark(o.fallback),
-        kept: o.kept as u64,
-        sweeps: work.sweeps as u64,
-        bisections: work.bisections as u64,
-        evaluations: work.evaluations as u64,
-        settled: mark(o.settled),
-    });
+    print_fields(fields::fields_of(i, o));
     let law = o.law;
     let alternative = o.alternative;
     print_word(o.n as u64);
