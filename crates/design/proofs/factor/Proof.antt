@@ -33,7 +33,8 @@ unfolding failsAt
 returns c =
     let a = c .before .before .before .before .before .before .before .before .before .before .before .before .args in
     let w = c .before .before .before .before .before .before .before .before .before .loop in
-    let p = fails-first (a .columns .now) (a .n) {k = a .k} {i = w .i} (c .before .before .before .before .before .before .before .before .loop-test .taken) (w .inv .2) (rw (c .before .max .ensures, c .before .before .products .ensures, c .before .before .before .before .before .column-products .ensures, c .before .before .before .before .before .before .left-of .ensures, w .inv .1) at (c .if1 .taken)) in (sym p, rw p (w .inv .1))
+    let p = fails-first (a .columns .now) (a .n) {k = a .k} {i = w .i} (c .before .before .before .before .before .before .before .before .loop-test .taken) (w .inv .2) (rw (c .before .max .ensures, c .before .before .products .ensures, c .before .before .before .before .before .column-products .ensures, c .before .before .before .before .before .before .left-of .ensures, w .inv .1) at (c .if1 .taken)) in
+    (sym p, rw p (w .inv .1))
 
 loop-again : tie.Need-loop-again Inv-loop μ-loop
 unfolding failsAt

@@ -9,19 +9,40 @@ use Rattle.dwexport.proofs.dwexport_test.Statement.{statement}
 use Rattle.dwexport.proofs.dwexport_test.Tie as tie
 
 returns : tie.Need-returns
-returns c = let s = refused-leaves (c .before .before .before .before .before .before .before .args .residuals .now) (c .before .before .before .before .before .before .before .args .columns .now) (c .before .before .before .before .before .before .before .args .k) (c .before .before .before .before .before .before .before .args .alternative) (c .before .before .before .before .before .before .before .args .choice) (c .before .before .before .before .before .before .before .args .matrix .now) (c .before .before .before .before .before .before .before .args .parts .now) (c .before .before .before .before .before .before .before .args .result .now) (ap (λ r. eqb r 0) (sym (c .before .status .ensures)) ∙ ne-eqb _ _ (c .if1 .taken)) in (c .before .status .ensures, (s .0, (s .1, s .2)))
+returns c =
+    let args = c .before .before .before .before .before .before .before .args in
+    let status = c .before .status in
+    let s = refused-leaves (args .residuals .now) (args .columns .now) (args .k) (args .alternative) (args .choice) (args .matrix .now) (args .parts .now) (args .result .now) (ap (λ r. eqb r 0) (sym (status .ensures)) ∙ ne-eqb _ _ (c .if1 .taken)) in
+    (status .ensures, (s .0, (s .1, s .2)))
 
 cast-alternative-of : tie.Need-cast-alternative-of
-cast-alternative-of c = let s = answered-when (length (c .before .before .before .before .before .before .before .args .result .now)) (c .before .before .before .before .before .before .before .args .alternative) (c .before .before .before .before .before .before .before .args .choice) (sym (c .before .status .ensures) ∙ c .if1 .left) in omega (arith, s .1)
+cast-alternative-of c =
+    let args = c .before .before .before .before .before .before .before .args in
+    let s = answered-when (length (args .result .now)) (args .alternative) (args .choice) (sym (c .before .status .ensures) ∙ c .if1 .left) in omega (arith, s .1)
 
 cast-choice-of : tie.Need-cast-choice-of
-cast-choice-of c = let s = answered-when (length (c .before .before .before .before .before .before .before .before .args .result .now)) (c .before .before .before .before .before .before .before .before .args .alternative) (c .before .before .before .before .before .before .before .before .args .choice) (sym (c .before .before .status .ensures) ∙ c .before .if1 .left) in omega (arith, s .2)
+cast-choice-of c =
+    let args = c .before .before .before .before .before .before .before .before .args in
+    let s = answered-when (length (args .result .now)) (args .alternative) (args .choice) (sym (c .before .before .status .ensures) ∙ c .before .if1 .left) in omega (arith, s .2)
 
 put-words-requires : tie.Need-put-words-requires
-put-words-requires c κs = (answered-when (length (c .before .before .before .before .before .before .before .before .before .before .before .before .before .before .before .before .before .before .args .result .now)) (c .before .before .before .before .before .before .before .before .before .before .before .before .before .before .before .before .before .before .args .alternative) (c .before .before .before .before .before .before .before .before .before .before .before .before .before .before .before .before .before .before .args .choice) (sym (c .before .before .before .before .before .before .before .before .before .before .before .before .status .ensures) ∙ c .before .before .before .before .before .before .before .before .before .before .before .if1 .left)) .0
+put-words-requires c κs =
+    let args = c .before .before .before .before .before .before .before .before .before .before .before .before .before .before .before .before .before .before .args in
+    let status = c .before .before .before .before .before .before .before .before .before .before .before .before .status in
+    let if1 = c .before .before .before .before .before .before .before .before .before .before .before .if1 in
+    (answered-when (length (args .result .now)) (args .alternative) (args .choice) (sym (status .ensures) ∙ if1 .left)) .0
 
 returns-2 : tie.Need-returns-2
-returns-2 c = let s = answered-gives (c .before .before .before .before .before .before .before .before .before .before .before .before .before .before .before .before .before .before .before .before .before .args .residuals .now) (c .before .before .before .before .before .before .before .before .before .before .before .before .before .before .before .before .before .before .before .before .before .args .columns .now) (c .before .before .before .before .before .before .before .before .before .before .before .before .before .before .before .before .before .before .before .before .before .args .k) (c .before .before .before .before .before .before .before .before .before .before .before .before .before .before .before .before .before .before .before .before .before .args .alternative) (c .before .before .before .before .before .before .before .before .before .before .before .before .before .before .before .before .before .before .before .before .before .args .choice) (c .before .before .before .before .before .before .before .before .before .before .before .before .before .before .before .before .before .before .before .before .before .args .matrix .now) (c .before .before .before .before .before .before .before .before .before .before .before .before .before .before .before .before .before .before .before .before .before .args .parts .now) (c .before .before .before .before .before .before .before .before .before .before .before .before .before .before .before .before .before .before .before .before .before .args .result .now) (ap (λ r. eqb r 0) (sym (c .before .before .before .before .before .before .before .before .before .before .before .before .before .before .before .status .ensures)) ∙ eq-eqb _ _ (c .before .before .before .before .before .before .before .before .before .before .before .before .before .before .if1 .left)) in (sym (c .before .before .before .before .before .before .before .before .before .before .before .before .before .before .if1 .left) ∙ c .before .before .before .before .before .before .before .before .before .before .before .before .before .before .before .status .ensures, (c .before .before .put-words .ensures ∙ rw (c .before .before .before .before .fields-of .ensures, c .before .before .before .before .before .before .before .before .before .durbin-watson-test .ensures .0, c .before .before .before .before .before .before .before .before .before .before .before .before .before .alternative-of .ensures, c .before .before .before .before .before .before .before .before .before .before .before .before .choice-of .ensures) (s .0), (c .before .before .before .before .before .before .before .before .before .durbin-watson-test .ensures .1 .0 ∙ rw (c .before .before .before .before .before .before .before .before .before .before .before .before .choice-of .ensures) (s .1), c .before .before .before .before .before .before .before .before .before .durbin-watson-test .ensures .1 .1 ∙ rw (c .before .before .before .before .before .before .before .before .before .before .before .before .choice-of .ensures) (s .2))))
+returns-2 c =
+    let args = c .before .before .before .before .before .before .before .before .before .before .before .before .before .before .before .before .before .before .before .before .before .args in
+    let status = c .before .before .before .before .before .before .before .before .before .before .before .before .before .before .before .status in
+    let if1 = c .before .before .before .before .before .before .before .before .before .before .before .before .before .before .if1 in
+    let alternative-of = c .before .before .before .before .before .before .before .before .before .before .before .before .before .alternative-of in
+    let choice-of = c .before .before .before .before .before .before .before .before .before .before .before .before .choice-of in
+    let durbin-watson-test = c .before .before .before .before .before .before .before .before .before .durbin-watson-test in
+    let fields-of = c .before .before .before .before .fields-of in
+    let s = answered-gives (args .residuals .now) (args .columns .now) (args .k) (args .alternative) (args .choice) (args .matrix .now) (args .parts .now) (args .result .now) (ap (λ r. eqb r 0) (sym (status .ensures)) ∙ eq-eqb _ _ (if1 .left)) in
+    (sym (if1 .left) ∙ status .ensures, (c .before .before .put-words .ensures ∙ rw (fields-of .ensures, durbin-watson-test .ensures .0, alternative-of .ensures, choice-of .ensures) (s .0), (durbin-watson-test .ensures .1 .0 ∙ rw (choice-of .ensures) (s .1), durbin-watson-test .ensures .1 .1 ∙ rw (choice-of .ensures) (s .2))))
 
 pub dwexport-test-spec : {M : Type 1} → statement M
 dwexport-test-spec =

@@ -6,7 +6,12 @@ use Rattle.projection.proofs.add_row_difference.Statement.{statement}
 use Rattle.projection.proofs.add_row_difference.Tie as tie
 
 returns : tie.Need-returns
-returns c = c .before .before .add-difference .ensures ∙ row-difference _ _ _ _ _ (c .before .before .before .before .before .before .before .before .before .before .args .m .now) (c .before .before .before .before .before .before .before .before .before .before .args .w .now) (c .before .before .before .before .before .before .before .before .before .before .pre .2) (c .before .before .before .before .before .before .before .before .before .before .pre .3) (c .before .before .before .before .before .before .before .before .before .before .pre .1) (c .before .before .before .before .before .before .before .before .before .before .pre .0) (c .before .before .before .before .before .before .before .place .ensures .0) (c .before .before .before .before .before .before .place2 .ensures .0)
+returns c =
+    let args = c .before .before .before .before .before .before .before .before .before .before .args in
+    let pre = c .before .before .before .before .before .before .before .before .before .before .pre in
+    let place = c .before .before .before .before .before .before .before .place in
+    let place2 = c .before .before .before .before .before .before .place2 in
+    c .before .before .add-difference .ensures ∙ row-difference _ _ _ _ _ (args .m .now) (args .w .now) (pre .2) (pre .3) (pre .1) (pre .0) (place .ensures .0) (place2 .ensures .0)
 
 pub add-row-difference-spec : {M : Type 1} → statement M
 add-row-difference-spec =

@@ -6,7 +6,12 @@ use Rattle.projection.proofs.fill_room.Statement.{statement}
 use Rattle.projection.proofs.fill_room.Tie as tie
 
 returns : tie.Need-returns
-returns c = room-of (c .before .before .before .before .before .before .before .before .before .before .before .before .before .before .before .before .before .before .before .before .before .args .x .now) (c .before .before .before .before .before .before .before .before .before .before .before .before .before .before .before .before .before .before .before .before .before .args .inv .now) (c .before .before .before .before .before .before .before .before .before .before .before .before .before .before .before .before .before .before .before .before .before .args .n) (c .before .before .before .before .before .before .before .before .before .before .before .before .before .before .before .before .before .before .before .before .before .args .k) (c .before .before .before .before .before .before .before .before .before .before .before .before .before .before .before .before .before .before .before .before .before .args .room .now) (c .before .before .before .before .before .before .before .before .before .before .before .before .before .before .before .before .before .before .before .before .before .pre .0) (c .before .before .before .before .before .before .before .before .before .before .before .before .before .before .residual-maker .last .0) _ (c .before .before .before .before .before .before .products .last .0) (c .before .before .before .before .before .before .before .before .before .before .before .before .before .before .residual-maker .ensures) refl (c .before .before .before .before .before .before .products .ensures)
+returns c =
+    let args = c .before .before .before .before .before .before .before .before .before .before .before .before .before .before .before .before .before .before .before .before .before .args in
+    let pre = c .before .before .before .before .before .before .before .before .before .before .before .before .before .before .before .before .before .before .before .before .before .pre in
+    let residual-maker = c .before .before .before .before .before .before .before .before .before .before .before .before .before .before .residual-maker in
+    let products = c .before .before .before .before .before .before .products in
+    room-of (args .x .now) (args .inv .now) (args .n) (args .k) (args .room .now) (pre .0) (residual-maker .last .0) _ (products .last .0) (residual-maker .ensures) refl (products .ensures)
 
 pub fill-room-spec : {M : Type 1} → statement M
 fill-room-spec =

@@ -35,7 +35,12 @@ part-add-layer-end : tie.Need-part-add-layer-end Inv-loop μ-loop
 part-add-layer-end c = let h = row-in (c .before .before .before .before .before .before .before .before .before .before .before .before .before .before .before .args .n) (c .before .before .before .before .before .before .loop-test .taken) in omega arith
 
 loop-again : tie.Need-loop-again Inv-loop μ-loop
-loop-again c = (omega arith, search needs, omega arith, c .before .before .add-layer .ensures ∙ hat-more _ _ _ _ _ _ _ (c .before .before .before .before .before .before .before .before .before .before .before .before .before .before .before .before .before .before .before .pre .2) (c .before .before .before .before .before .before .before .before .before .before .loop-test .taken) (c .before .before .before .before .before .before .before .before .before .before .before .loop .inv .3) (c .before .before .before .before .before .before .before .before .weights .ensures))
+loop-again c =
+    let pre = c .before .before .before .before .before .before .before .before .before .before .before .before .before .before .before .before .before .before .before .pre in
+    let loop = c .before .before .before .before .before .before .before .before .before .before .before .loop in
+    let loop-test = c .before .before .before .before .before .before .before .before .before .before .loop-test in
+    let weights = c .before .before .before .before .before .before .before .before .weights in
+    (omega arith, search needs, omega arith, c .before .before .add-layer .ensures ∙ hat-more _ _ _ _ _ _ _ (pre .2) (loop-test .taken) (loop .inv .3) (weights .ensures))
 
 returns : tie.Need-returns Inv-loop μ-loop
 unfolding hat hatTo sums

@@ -13,7 +13,9 @@ slice-aggregate-fill-room-2 : tie.Need-slice-aggregate-fill-room-2
 slice-aggregate-fill-room-2 c = sym (array-lent _ (c .before .before .before .before .before .pre .2))
 
 fill-room-requires : tie.Need-fill-room-requires
-fill-room-requires c κs = (c .before .before .before .before .before .before .pre .0, array-lent _ (c .before .before .before .before .before .before .pre .2), array-lent _ (c .before .before .before .before .before .before .pre .2), c .before .before .before .before .before .before .pre .1, c .before .before .before .before .before .before .pre .3, c .before .before .before .before .before .before .pre .2)
+fill-room-requires c κs =
+    let pre = c .before .before .before .before .before .before .pre in
+    (pre .0, array-lent _ (pre .2), array-lent _ (pre .2), pre .1, pre .3, pre .2)
 
 slice-aggregate-first-bad : tie.Need-slice-aggregate-first-bad
 slice-aggregate-first-bad c = half-lent _ (c .before .before .before .before .before .fill-room .last .0) (search needs)

@@ -44,7 +44,12 @@ fill-requires : tie.Need-fill-requires Inv-loop μ-loop Inv-loop2 μ-loop2
 fill-requires c κs = search needs
 
 loop-holds : tie.Need-loop-holds Inv-loop μ-loop Inv-loop2 μ-loop2
-loop-holds c = let e = c .before .before .fill .ensures ∙ ap (table (λ j. minusZero)) (sym (half-lent _ (c .before .before .before .before .before .before .before .before .before .before .before .before .before .args .room .now) (c .before .before .before .before .before .before .before .before .before .before .before .before .before .pre .0))) in (omega arith, terms-begin _ _ (c .before .before .before .before .before .before .before .before .before .before .before .before .before .args .room .now) (ap length e ∙ length-table _ _) e, refl, rw (length-front (c .before .before .before .before .before .before .before .before .before .before .before .before .before .args .room .now) (c .before .before .fill .last .0) (c .before .before .before .before .before .before .before .before .before .before .before .before .before .args .n * c .before .before .before .before .before .before .before .before .before .before .before .before .before .args .n) (search needs)) (c .before .before .before .before .before .before .before .before .before .before .before .before .before .pre .0), c .before .before .before .before .before .before .before .before .before .before .before .before .before .pre .1, c .before .before .before .before .before .before .before .before .before .before .before .before .before .pre .2, c .before .before .before .before .before .before .before .before .before .before .before .before .before .pre .3, c .before .before .before .before .before .before .before .before .before .before .before .before .before .pre .4, c .before .before .before .before .before .before .before .before .before .before .before .before .before .pre .5, c .before .before .before .before .before .before .before .before .before .before .before .before .before .pre .6, c .before .before .before .before .before .before .before .before .before .before .before .before .before .pre .7, c .before .before .before .before .before .before .before .before .before .before .before .before .before .pre .8, c .before .before .before .before .before .before .before .before .before .before .before .before .before .pre .9)
+loop-holds c =
+    let args = c .before .before .before .before .before .before .before .before .before .before .before .before .before .args in
+    let pre = c .before .before .before .before .before .before .before .before .before .before .before .before .before .pre in
+    let fill = c .before .before .fill in
+    let e = fill .ensures ∙ ap (table (λ j. minusZero)) (sym (half-lent _ (args .room .now) (pre .0))) in
+    (omega arith, terms-begin _ _ (args .room .now) (ap length e ∙ length-table _ _) e, refl, rw (length-front (args .room .now) (fill .last .0) (args .n * args .n) (search needs)) (pre .0), pre .1, pre .2, pre .3, pre .4, pre .5, pre .6, pre .7, pre .8, pre .9)
 
 add-loop : tie.Need-add-loop Inv-loop μ-loop Inv-loop2 μ-loop2
 add-loop c = search needs
@@ -59,7 +64,10 @@ loop-less : tie.Need-loop-less Inv-loop μ-loop Inv-loop2 μ-loop2
 loop-less c = search needs
 
 loop-again : tie.Need-loop-again Inv-loop μ-loop Inv-loop2 μ-loop2
-loop-again c = (omega arith, c .before .before .before .before .before .before .before .before .before .before .before .before .before .before .before .before .before .before .add-four-terms .ensures ∙ terms-four _ _ _ _ (c .before .before .before .before .before .before .before .before .before .before .before .before .before .before .before .before .before .before .before .before .before .before .before .before .before .before .before .before .before .loop .inv .1), search needs, omega arith, c .before .before .before .before .before .before .before .before .before .before .before .before .before .before .before .before .before .before .before .before .before .before .before .before .before .before .before .before .before .loop .inv .4, search needs, search needs, search needs, search needs, search needs, search needs, search needs, search needs)
+loop-again c =
+    let loop = c .before .before .before .before .before .before .before .before .before .before .before .before .before .before .before .before .before .before .before .before .before .before .before .before .before .before .before .before .before .loop in
+    let add-four-terms = c .before .before .before .before .before .before .before .before .before .before .before .before .before .before .before .before .before .before .add-four-terms in
+    (omega arith, add-four-terms .ensures ∙ terms-four _ _ _ _ (loop .inv .1), search needs, omega arith, loop .inv .4, search needs, search needs, search needs, search needs, search needs, search needs, search needs, search needs)
 
 loop2-holds : tie.Need-loop2-holds Inv-loop μ-loop Inv-loop2 μ-loop2
 loop2-holds c = (c .before .loop .inv .0, terms-self _ _ _ _ (c .before .loop .inv .1), refl, c .before .loop .inv .3, c .before .loop .inv .4, c .before .loop .inv .5, c .before .loop .inv .6)
@@ -74,7 +82,10 @@ loop2-less : tie.Need-loop2-less Inv-loop μ-loop Inv-loop2 μ-loop2
 loop2-less c = search needs
 
 loop2-again : tie.Need-loop2-again Inv-loop μ-loop Inv-loop2 μ-loop2
-loop2-again c = (omega arith, c .before .before .before .before .before .before .add-term .ensures ∙ terms-more _ _ _ _ (c .before .before .before .before .before .before .before .before .before .before .before .loop2 .inv .1), search needs, omega arith, c .before .before .before .before .before .before .before .before .before .before .before .loop2 .inv .4, search needs, search needs)
+loop2-again c =
+    let loop2 = c .before .before .before .before .before .before .before .before .before .before .before .loop2 in
+    let add-term = c .before .before .before .before .before .before .add-term in
+    (omega arith, add-term .ensures ∙ terms-more _ _ _ _ (loop2 .inv .1), search needs, omega arith, loop2 .inv .4, search needs, search needs)
 
 slice-relend-prefix-mirror : tie.Need-slice-relend-prefix-mirror Inv-loop μ-loop Inv-loop2 μ-loop2
 slice-relend-prefix-mirror c = search needs
@@ -113,7 +124,16 @@ same-length-9 : tie.Need-same-length-9 Inv-loop μ-loop Inv-loop2 μ-loop2
 same-length-9 c = search needs
 
 returns : tie.Need-returns Inv-loop μ-loop Inv-loop2 μ-loop2
-returns c = let e = c .before .before .before .before .before .before .before .before .before .before .fill .ensures ∙ ap (table (λ j. minusZero)) (sym (half-lent _ (c .before .before .before .before .before .before .before .before .before .before .before .before .before .before .before .before .before .before .before .before .before .args .room .now) (c .before .before .before .before .before .before .before .before .before .before .before .before .before .before .before .before .before .before .before .before .before .pre .0))) in terms-all (c .before .before .before .before .before .before .before .before .before .before .before .before .before .before .before .before .before .before .before .before .before .args .n) (c .before .before .before .before .before .before .before .before .before .before .before .before .before .before .before .before .before .before .before .before .before .args .room .now) (c .before .before .before .before .before .loop2 .room) (c .before .before .mirror .last .0) (c .before .before .before .before .before .loop2 .inv .1 ∙ terms-carry _ _ _ _ (c .before .before .before .before .before .before .before .loop .inv .1) _ ∙ terms-same _ (c .before .before .before .before .before .before .before .before .before .before .fill .last .0) (c .before .before .before .before .before .before .before .before .before .before .before .before .before .before .before .before .before .before .before .before .before .args .room .now) (ap length e ∙ length-table _ _) _ ∙ ap (termsTo (c .before .before .before .before .before .before .before .before .before .before .before .before .before .before .before .before .before .before .before .before .before .args .n) (c .before .before .before .before .before .before .before .before .before .before .before .before .before .before .before .before .before .before .before .before .before .args .room .now)) (le-antisymm (c .before .before .before .before .before .loop2 .inv .0) (c .before .before .before .before .loop2-test .left))) (c .before .before .mirror .ensures)
+returns c =
+    let args = c .before .before .before .before .before .before .before .before .before .before .before .before .before .before .before .before .before .before .before .before .before .args in
+    let pre = c .before .before .before .before .before .before .before .before .before .before .before .before .before .before .before .before .before .before .before .before .before .pre in
+    let fill = c .before .before .before .before .before .before .before .before .before .before .fill in
+    let loop = c .before .before .before .before .before .before .before .loop in
+    let loop2 = c .before .before .before .before .before .loop2 in
+    let loop2-test = c .before .before .before .before .loop2-test in
+    let mirror = c .before .before .mirror in
+    let e = fill .ensures ∙ ap (table (λ j. minusZero)) (sym (half-lent _ (args .room .now) (pre .0))) in
+    terms-all (args .n) (args .room .now) (loop2 .room) (mirror .last .0) (loop2 .inv .1 ∙ terms-carry _ _ _ _ (loop .inv .1) _ ∙ terms-same _ (fill .last .0) (args .room .now) (ap length e ∙ length-table _ _) _ ∙ ap (termsTo (args .n) (args .room .now)) (le-antisymm (loop2 .inv .0) (loop2-test .left))) (mirror .ensures)
 
 pub products-by-four-spec : {M : Type 1} → statement M
 products-by-four-spec =

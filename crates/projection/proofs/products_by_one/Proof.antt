@@ -23,7 +23,12 @@ slice-aggregate-fill : tie.Need-slice-aggregate-fill Inv-loop μ-loop
 slice-aggregate-fill c = half-lent _ (c .before .before .before .before .args .room .now) (c .before .before .before .before .pre .0)
 
 loop-holds : tie.Need-loop-holds Inv-loop μ-loop
-loop-holds c = let e = c .before .before .fill .ensures ∙ ap (table (λ j. minusZero)) (sym (half-lent _ (c .before .before .before .before .before .before .before .args .room .now) (c .before .before .before .before .before .before .before .pre .0))) in (omega arith, refl, c .before .before .before .before .before .before .before .pre .1, c .before .before .before .before .before .before .before .pre .2, terms-begin _ _ (c .before .before .before .before .before .before .before .args .room .now) (ap length e ∙ length-table _ _) e, rw (length-front (c .before .before .before .before .before .before .before .args .room .now) (c .before .before .fill .last .0) (c .before .before .before .before .before .before .before .args .n * c .before .before .before .before .before .before .before .args .n) (search needs)) (c .before .before .before .before .before .before .before .pre .0))
+loop-holds c =
+    let args = c .before .before .before .before .before .before .before .args in
+    let pre = c .before .before .before .before .before .before .before .pre in
+    let fill = c .before .before .fill in
+    let e = fill .ensures ∙ ap (table (λ j. minusZero)) (sym (half-lent _ (args .room .now) (pre .0))) in
+    (omega arith, refl, pre .1, pre .2, terms-begin _ _ (args .room .now) (ap length e ∙ length-table _ _) e, rw (length-front (args .room .now) (fill .last .0) (args .n * args .n) (search needs)) (pre .0))
 
 loop-again : tie.Need-loop-again Inv-loop μ-loop
 loop-again c = (omega arith, search needs, search needs, search needs, c .before .before .before .before .before .before .add-term .ensures ∙ terms-more _ _ _ _ (c .before .before .before .before .before .before .before .before .before .before .before .loop .inv .4), omega arith)
@@ -35,7 +40,15 @@ mirror-requires : tie.Need-mirror-requires Inv-loop μ-loop
 mirror-requires c κs = sym (half-lent _ (c .before .before .loop .room) (c .before .before .loop .inv .5))
 
 returns : tie.Need-returns Inv-loop μ-loop
-returns c = let e = c .before .before .before .before .before .before .before .before .fill .ensures ∙ ap (table (λ j. minusZero)) (sym (half-lent _ (c .before .before .before .before .before .before .before .before .before .before .before .before .before .args .room .now) (c .before .before .before .before .before .before .before .before .before .before .before .before .before .pre .0))) in terms-all (c .before .before .before .before .before .before .before .before .before .before .before .before .before .args .n) (c .before .before .before .before .before .before .before .before .before .before .before .before .before .args .room .now) (c .before .before .before .before .before .loop .room) (c .before .before .mirror .last .0) (c .before .before .before .before .before .loop .inv .4 ∙ terms-same _ (c .before .before .before .before .before .before .before .before .fill .last .0) (c .before .before .before .before .before .before .before .before .before .before .before .before .before .args .room .now) (ap length e ∙ length-table _ _) _ ∙ ap (termsTo (c .before .before .before .before .before .before .before .before .before .before .before .before .before .args .n) (c .before .before .before .before .before .before .before .before .before .before .before .before .before .args .room .now)) (le-antisymm (c .before .before .before .before .before .loop .inv .0) (c .before .before .before .before .loop-test .left))) (c .before .before .mirror .ensures)
+returns c =
+    let args = c .before .before .before .before .before .before .before .before .before .before .before .before .before .args in
+    let pre = c .before .before .before .before .before .before .before .before .before .before .before .before .before .pre in
+    let fill = c .before .before .before .before .before .before .before .before .fill in
+    let loop = c .before .before .before .before .before .loop in
+    let loop-test = c .before .before .before .before .loop-test in
+    let mirror = c .before .before .mirror in
+    let e = fill .ensures ∙ ap (table (λ j. minusZero)) (sym (half-lent _ (args .room .now) (pre .0))) in
+    terms-all (args .n) (args .room .now) (loop .room) (mirror .last .0) (loop .inv .4 ∙ terms-same _ (fill .last .0) (args .room .now) (ap length e ∙ length-table _ _) _ ∙ ap (termsTo (args .n) (args .room .now)) (le-antisymm (loop .inv .0) (loop-test .left))) (mirror .ensures)
 
 pub products-by-one-spec : {M : Type 1} → statement M
 products-by-one-spec =

@@ -56,7 +56,9 @@ slice-aggregate-products-by-four-8 : tie.Need-slice-aggregate-products-by-four-8
 slice-aggregate-products-by-four-8 c = sym (array-lent _ (c .before .before .before .before .before .before .before .before .before .before .pre .1))
 
 products-by-four-requires : tie.Need-products-by-four-requires
-products-by-four-requires c κs = (c .before .before .before .before .before .before .before .before .before .before .pre .0, c .before .before .before .before .before .before .before .before .before .before .pre .1, array-lent _ (c .before .before .before .before .before .before .before .before .before .before .pre .1), array-lent _ (c .before .before .before .before .before .before .before .before .before .before .pre .1), array-lent _ (c .before .before .before .before .before .before .before .before .before .before .pre .1), array-lent _ (c .before .before .before .before .before .before .before .before .before .before .pre .1), array-lent _ (c .before .before .before .before .before .before .before .before .before .before .pre .1), array-lent _ (c .before .before .before .before .before .before .before .before .before .before .pre .1), array-lent _ (c .before .before .before .before .before .before .before .before .before .before .pre .1), array-lent _ (c .before .before .before .before .before .before .before .before .before .before .pre .1))
+products-by-four-requires c κs =
+    let pre = c .before .before .before .before .before .before .before .before .before .before .pre in
+    (pre .0, pre .1, array-lent _ (pre .1), array-lent _ (pre .1), array-lent _ (pre .1), array-lent _ (pre .1), array-lent _ (pre .1), array-lent _ (pre .1), array-lent _ (pre .1), array-lent _ (pre .1))
 
 same-length : tie.Need-same-length
 same-length c = search needs

@@ -10,7 +10,12 @@ use Rattle.projection.proofs.residual_maker.Tie as tie
 
 returns : tie.Need-returns
 unfolding identified hat hatTo sums
-returns c = c .before .before .mirror .ensures ∙ residual-of (c .before .before .before .before .before .before .before .before .before .before .before .before .before .before .before .before .before .before .before .before .before .before .args .x .now) (c .before .before .before .before .before .before .before .before .before .before .before .before .before .before .before .before .before .before .before .before .before .before .args .inv .now) (c .before .before .before .before .before .before .before .before .before .before .before .before .before .before .before .before .before .before .before .before .before .before .args .n) (c .before .before .before .before .before .before .before .before .before .before .before .before .before .before .before .before .before .before .before .before .before .before .args .k) _ _ _ (c .before .before .before .before .before .before .before .before .before .before .before .before .before .before .before .before .hat .ensures) (c .before .before .before .before .before .before .before .before .before .before .negate .ensures) (c .before .before .before .before .before .before .add-identity .ensures)
+returns c =
+    let args = c .before .before .before .before .before .before .before .before .before .before .before .before .before .before .before .before .before .before .before .before .before .before .args in
+    let hat = c .before .before .before .before .before .before .before .before .before .before .before .before .before .before .before .before .hat in
+    let negate = c .before .before .before .before .before .before .before .before .before .before .negate in
+    let add-identity = c .before .before .before .before .before .before .add-identity in
+    c .before .before .mirror .ensures ∙ residual-of (args .x .now) (args .inv .now) (args .n) (args .k) _ _ _ (hat .ensures) (negate .ensures) (add-identity .ensures)
 
 pub residual-maker-spec : {M : Type 1} → statement M
 residual-maker-spec =

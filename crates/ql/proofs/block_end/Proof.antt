@@ -78,7 +78,11 @@ is-negligible-requires c κs = search needs
 
 returns : tie.Need-returns Inv-loop μ-loop
 unfolding blockEnd
-returns c = ((omega arith, omega arith), sym (ap (endAt (c .before .before .before .before .before .before .before .before .before .before .before .args .n) (c .before .before .before .before .before .before .before .before .before .before .before .args .l)) (first-at _ {n = c .before .before .before .before .before .before .before .before .before .before .before .args .n - 1 - c .before .before .before .before .before .before .before .before .before .before .before .args .l} {i = c .before .before .before .before .before .before .loop .t} (omega arith) (c .before .before .before .before .before .before .loop .inv .2) ((said _ _ _ _ _ _ (c .before .is-negligible .ensures) (c .before .before .before .before .before .before .loop .inv .1) (c .before .before .before .abs2 .ensures)) ∙ c .if1 .taken))))
+returns c =
+    let args = c .before .before .before .before .before .before .before .before .before .before .before .args in
+    let loop = c .before .before .before .before .before .before .loop in
+    let abs2 = c .before .before .before .abs2 in
+    ((omega arith, omega arith), sym (ap (endAt (args .n) (args .l)) (first-at _ {n = args .n - 1 - args .l} {i = loop .t} (omega arith) (loop .inv .2) ((said _ _ _ _ _ _ (c .before .is-negligible .ensures) (loop .inv .1) (abs2 .ensures)) ∙ c .if1 .taken))))
 
 add-t : tie.Need-add-t Inv-loop μ-loop
 add-t c = search needs
@@ -87,7 +91,11 @@ loop-less : tie.Need-loop-less Inv-loop μ-loop
 loop-less c = search needs
 
 loop-again : tie.Need-loop-again Inv-loop μ-loop
-loop-again c = (omega arith, c .before .before .before .abs2 .ensures ∙ ap (λ (i : ℕ). absOf (c .before .before .before .before .before .before .before .before .before .before .before .args .d .now ‼ i)) (omega arith), first-not _ _ (c .before .before .before .before .before .before .loop .inv .2) ((said _ _ _ _ _ _ (c .before .is-negligible .ensures) (c .before .before .before .before .before .before .loop .inv .1) (c .before .before .before .abs2 .ensures)) ∙ c .if1 .left))
+loop-again c =
+    let args = c .before .before .before .before .before .before .before .before .before .before .before .args in
+    let loop = c .before .before .before .before .before .before .loop in
+    let abs2 = c .before .before .before .abs2 in
+    (omega arith, abs2 .ensures ∙ ap (λ (i : ℕ). absOf (args .d .now ‼ i)) (omega arith), first-not _ _ (loop .inv .2) ((said _ _ _ _ _ _ (c .before .is-negligible .ensures) (loop .inv .1) (abs2 .ensures)) ∙ c .if1 .left))
 
 sub-result : tie.Need-sub-result Inv-loop μ-loop
 sub-result c = search needs

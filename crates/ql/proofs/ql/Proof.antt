@@ -22,11 +22,17 @@ unfolding qlOf
 loop-holds c = (omega arith, refl, refl, refl)
 
 settle-requires : tie.Need-settle-requires Inv-loop μ-loop
-settle-requires c κs = (omega arith, omega arith, omega arith, omega (arith, rw (← c .before .before .before .loop .inv .3) at (all-sweeps (c .before .before .before .before .before .before .args .n) (c .before .before .before .loop .l) (c .before .before .before .before .before .before .args .d .now) (c .before .before .before .before .before .before .args .e .now) (c .before .before .before .before .before .before .args .work))))
+settle-requires c κs =
+    let args = c .before .before .before .before .before .before .args in
+    let loop = c .before .before .before .loop in
+    (omega arith, omega arith, omega arith, omega (arith, rw (← loop .inv .3) at (all-sweeps (args .n) (loop .l) (args .d .now) (args .e .now) (args .work))))
 
 loop-again : tie.Need-loop-again Inv-loop μ-loop
 unfolding qlOf
-loop-again c = (omega arith, omega arith, omega arith, rw (add-one (c .before .before .before .before .before .before .before .before .loop .l), c .before .before .before .before .settle .ensures .0, c .before .before .before .before .settle .ensures .1 .0, c .before .before .before .before .settle .ensures .1 .1, ← c .before .before .before .before .before .before .before .before .loop .inv .3))
+loop-again c =
+    let loop = c .before .before .before .before .before .before .before .before .loop in
+    let settle = c .before .before .before .before .settle in
+    (omega arith, omega arith, omega arith, rw (add-one (loop .l), settle .ensures .0, settle .ensures .1 .0, settle .ensures .1 .1, ← loop .inv .3))
 
 returns : tie.Need-returns Inv-loop μ-loop
 returns c = let h = rw (le-antisymm (c .before .loop .inv .0) (c .loop-test .left)) at (c .before .loop .inv .3) in (ap (λ s. s .work) h, (ap (λ s. s .diagonal) h, ap (λ s. s .coupling) h))

@@ -26,7 +26,13 @@ returns c = let h = rw (sub-step (c .before .before .before .before .loop-test .
 
 loop-again : tie.Need-loop-again Inv-loop μ-loop
 unfolding settled
-loop-again c = (omega arith, omega arith, omega arith, rw (c .swept .ensures) (omega arith), rw (c .swept .ensures, c .before .before .before .before .before .sweep .ensures .0, c .before .before .before .before .before .sweep .ensures .1) (rw (sub-step (c .before .before .before .before .before .before .before .before .before .before .before .before .loop-test .taken), ← c .before .before .before .before .before .before .before .before .before .block-end .ensures .1, ne-eqb _ _ (c .before .before .before .before .before .before .before .before .if1 .left)) at (c .before .before .before .before .before .before .before .before .before .before .before .before .before .loop .inv .4)))
+loop-again c =
+    let loop = c .before .before .before .before .before .before .before .before .before .before .before .before .before .loop in
+    let loop-test = c .before .before .before .before .before .before .before .before .before .before .before .before .loop-test in
+    let block-end = c .before .before .before .before .before .before .before .before .before .block-end in
+    let if1 = c .before .before .before .before .before .before .before .before .if1 in
+    let sweep = c .before .before .before .before .before .sweep in
+    (omega arith, omega arith, omega arith, rw (c .swept .ensures) (omega arith), rw (c .swept .ensures, sweep .ensures .0, sweep .ensures .1) (rw (sub-step (loop-test .taken), ← block-end .ensures .1, ne-eqb _ _ (if1 .left)) at (loop .inv .4)))
 
 returns-2 : tie.Need-returns-2 Inv-loop μ-loop
 unfolding settled

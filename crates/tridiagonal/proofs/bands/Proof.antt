@@ -56,7 +56,12 @@ loop-less : tie.Need-loop-less Inv-loop μ-loop
 loop-less c = search needs
 
 loop-again : tie.Need-loop-again Inv-loop μ-loop
-loop-again c = let h : c .before .before .before .before .loop .i < length (c .before .before .before .before .before .before .before .before .args .d .now) = search needs in let k : c .before .before .before .before .loop .i < length (c .before .before .before .before .before .before .before .before .args .e .now) = search needs in (omega arith, simp length-set (omega arith), simp length-set (omega arith), rw (c .before .before .before .before .loop .inv .3, c .before .before .place .ensures .0) (filled-more _ _ _ nan h), rw (c .before .before .before .before .loop .inv .4, c .coupling .ensures) (filled-more _ _ _ nan k))
+loop-again c =
+    let args = c .before .before .before .before .before .before .before .before .args in
+    let loop = c .before .before .before .before .loop in
+    let h : loop .i < length (args .d .now) = search needs in
+    let k : loop .i < length (args .e .now) = search needs in
+    (omega arith, simp length-set (omega arith), simp length-set (omega arith), rw (loop .inv .3, c .before .before .place .ensures .0) (filled-more _ _ _ nan h), rw (loop .inv .4, c .coupling .ensures) (filled-more _ _ _ nan k))
 
 same-length : tie.Need-same-length Inv-loop μ-loop
 same-length c = search needs

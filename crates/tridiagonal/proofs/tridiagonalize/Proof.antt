@@ -55,7 +55,10 @@ loop-less : tie.Need-loop-less Inv-loop μ-loop
 loop-less c = search needs
 
 loop-again : tie.Need-loop-again Inv-loop μ-loop
-loop-again c = (search needs, search needs, search needs, c .before .before .before .before .reflect .ensures ∙ rw (c .before .before .before .before .before .before .before .before .before .loop .inv .3) (sym (turns-more _ _ _)), simp (length-append, length-drop) (omega (arith, simp length-take at (c .before .v2 .given))), simp (length-append, length-drop) (omega (arith, simp length-take at (c .p2 .given))))
+loop-again c =
+    let loop = c .before .before .before .before .before .before .before .before .before .loop in
+    let reflect = c .before .before .before .before .reflect in
+    (search needs, search needs, search needs, reflect .ensures ∙ rw (loop .inv .3) (sym (turns-more _ _ _)), simp (length-append, length-drop) (omega (arith, simp length-take at (c .before .v2 .given))), simp (length-append, length-drop) (omega (arith, simp length-take at (c .p2 .given))))
 
 same-length : tie.Need-same-length Inv-loop μ-loop
 same-length c = search needs

@@ -8,10 +8,14 @@ use Rattle.try_eigen.proofs.design_of.Statement.{statement}
 use Rattle.try_eigen.proofs.design_of.Tie as tie
 
 spectrum-by-columns-requires : tie.Need-spectrum-by-columns-requires
-spectrum-by-columns-requires c κs = (c .before .before .before .before .before .before .before .before .before .before .before .before .before .before .before .before .before .before .pre .0, c .before .before .before .before .before .before .before .before .before .before .before .before .before .before .before .before .before .before .pre .1, c .before .before .before .before .before .before .before .before .before .before .before .before .before .before .before .before .before .before .pre .2, simp length-take (omega (arith, c .before .before .before .before .before .before .before .before .before .before .before .before .before .before .before .before .before .before .pre .3)), c .before .before .before .before .before .before .before .before .before .before .before .before .before .before .before .before .before .before .pre .7)
+spectrum-by-columns-requires c κs =
+    let pre = c .before .before .before .before .before .before .before .before .before .before .before .before .before .before .before .before .before .before .pre in
+    (pre .0, pre .1, pre .2, simp length-take (omega (arith, pre .3)), pre .7)
 
 spectrum-of-requires : tie.Need-spectrum-of-requires
-spectrum-of-requires c κs = (c .before .before .before .before .before .before .before .before .before .before .before .before .before .before .before .before .before .before .before .before .pre .0, c .before .before .before .before .before .before .before .before .before .before .before .before .before .before .before .before .before .before .before .before .pre .1, c .before .before .before .before .before .before .before .before .before .before .before .before .before .before .before .before .before .before .before .before .pre .2, simp length-take (omega (arith, c .before .before .before .before .before .before .before .before .before .before .before .before .before .before .before .before .before .before .before .before .pre .3)), c .before .before .before .before .before .before .before .before .before .before .before .before .before .before .before .before .before .before .before .before .pre .7)
+spectrum-of-requires c κs =
+    let pre = c .before .before .before .before .before .before .before .before .before .before .before .before .before .before .before .before .before .before .before .before .pre in
+    (pre .0, pre .1, pre .2, simp length-take (omega (arith, pre .3)), pre .7)
 
 pub design-of-spec : {M : Type 1} → statement M
 design-of-spec =

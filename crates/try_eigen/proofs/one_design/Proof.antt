@@ -11,7 +11,13 @@ mul-design-of : tie.Need-mul-design-of
 mul-design-of c = record { fits = lt-of-le-of-lt (mul-le-mul (c .before .if2 .left) (c .before .before .if1 .left)) (lit< tt) }
 
 design-of-requires : tie.Need-design-of-requires
-design-of-requires c κs = let h = mul-le-mul (c .before .before .before .before .if2 .left) (c .before .before .before .before .before .if1 .left) in let s = mul-le-mul (c .before .before .before .before .before .if1 .left) (c .before .before .before .before .before .if1 .left) in (c .before .before .before .before .before .if1 .left, c .before .before .before .before .if2 .left, c .before .before .before .if3 .left, refl, omega (arith, h), omega (arith, h), omega (arith, h), omega (arith, s))
+design-of-requires c κs =
+    let if1 = c .before .before .before .before .before .if1 in
+    let if2 = c .before .before .before .before .if2 in
+    let if3 = c .before .before .before .if3 in
+    let h = mul-le-mul (if2 .left) (if1 .left) in
+    let s = mul-le-mul (if1 .left) (if1 .left) in
+    (if1 .left, if2 .left, if3 .left, refl, omega (arith, h), omega (arith, h), omega (arith, h), omega (arith, s))
 
 pub one-design-spec : {M : Type 1} → statement M
 one-design-spec =

@@ -65,7 +65,10 @@ returns-2 c = let f = integrandOf (c .before .before .before .before .before .be
     rw (next-refused f ps (c .before .before .before .before .before .before .before .before .before .before .before .before .args .tally) more broken) (refl, (refl, sym (laid-in (c .before .before .before .before .before .before .before .before .before .before .before .before .args .n) r)))
 
 replace-requires : tie.Need-replace-requires
-replace-requires c κs = (c .before .before .before .before .before .before .worst .ensures .0, c .before .before .before .before .before .before .before .before .before .before .before .before .before .pre .0 .1, c .before .before .before .before .before .before .before .before .before .before .before .before .before .pre .0 .2)
+replace-requires c κs =
+    let pre = c .before .before .before .before .before .before .before .before .before .before .before .before .before .pre in
+    let worst = c .before .before .before .before .before .before .worst in
+    (worst .ensures .0, pre .0 .1, pre .0 .2)
 
 bisected-requires : tie.Need-bisected-requires
 bisected-requires c κs = omega (arith, c .before .before .before .before .before .before .before .before .before .before .before .before .before .before .before .before .pre .1 .0)

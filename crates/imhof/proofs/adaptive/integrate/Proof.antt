@@ -44,7 +44,10 @@ is-finite-part-requires : tie.Need-is-finite-part-requires Inv-loop μ-loop
 is-finite-part-requires c κs = search needs
 
 returns : tie.Need-returns Inv-loop μ-loop
-returns c = let e = first-refused (integrandOf (c .before .before .before .before .before .args .weights .now)) (c .before .before .before .before .before .args .lo) (c .before .before .before .before .before .args .hi) (ap finitePart (sym (c .before .before .gk15 .ensures)) ∙ sym (c .before .is-finite-part .ensures) ∙ not-true (c .before .is-finite-part .result) (c .if1 .taken)) in
+returns c =
+    let args = c .before .before .before .before .before .args in
+    let is-finite-part = c .before .is-finite-part in
+    let e = first-refused (integrandOf (args .weights .now)) (args .lo) (args .hi) (ap finitePart (sym (c .before .before .gk15 .ensures)) ∙ sym (is-finite-part .ensures) ∙ not-true (is-finite-part .result) (c .if1 .taken)) in
     (ap quadratureOf (sym e), sym (ap (λ s. laidOut (s .parts) (c .before .before .before .before .before .args .parts .now)) e ∙ laid-none (c .before .before .before .before .before .args .parts .now)))
 
 put-requires : tie.Need-put-requires Inv-loop μ-loop
@@ -68,7 +71,9 @@ add-advance : tie.Need-add-advance Inv-loop μ-loop
 add-advance c = search needs
 
 advance-requires : tie.Need-advance-requires Inv-loop μ-loop
-advance-requires c κs = ((omega (arith, c .before .before .loop .inv .0), omega (arith, c .before .loop-test .taken), omega (arith, c .before .before .loop .inv .1, c .before .before .loop .inv .2)), (omega (arith, c .before .before .loop .inv .0, c .before .before .loop .inv .3), omega (arith, c .before .before .loop .inv .0, c .before .before .loop .inv .4)))
+advance-requires c κs =
+    let loop = c .before .before .loop in
+    ((omega (arith, loop .inv .0), omega (arith, c .before .loop-test .taken), omega (arith, loop .inv .1, loop .inv .2)), (omega (arith, loop .inv .0, loop .inv .3), omega (arith, loop .inv .0, loop .inv .4)))
 
 enum-told : tie.Need-enum-told Inv-loop μ-loop
 enum-told c = search needs
@@ -80,10 +85,18 @@ add-total : tie.Need-add-total Inv-loop μ-loop
 add-total c = search needs
 
 total-requires : tie.Need-total-requires Inv-loop μ-loop
-total-requires c κs = (omega (arith, c .before .before .before .before .before .before .before .before .before .loop .inv .0, c .before .before .before .before .before .before .before .before .loop-test .taken), omega (arith, c .before .before .before .before .before .before .before .before .before .loop .inv .1, c .before .before .before .before .before .before .before .before .before .loop .inv .2, c .before .before .before .before .before .before .advance .kept .1 .0))
+total-requires c κs =
+    let loop = c .before .before .before .before .before .before .before .before .before .loop in
+    let loop-test = c .before .before .before .before .before .before .before .before .loop-test in
+    let advance = c .before .before .before .before .before .before .advance in
+    (omega (arith, loop .inv .0, loop-test .taken), omega (arith, loop .inv .1, loop .inv .2, advance .kept .1 .0))
 
 same-length : tie.Need-same-length Inv-loop μ-loop
-same-length c = c .before .before .before .before .before .before .before .advance .kept .1 .0 ∙ c .before .before .before .before .before .before .before .before .before .before .loop .inv .1 ∙ c .before .before .before .before .before .before .before .before .before .before .before .before .before .before .before .put .kept .0
+same-length c =
+    let put = c .before .before .before .before .before .before .before .before .before .before .before .before .before .before .before .put in
+    let loop = c .before .before .before .before .before .before .before .before .before .before .loop in
+    let advance = c .before .before .before .before .before .before .before .advance in
+    advance .kept .1 .0 ∙ loop .inv .1 ∙ put .kept .0
 
 returns-2 : tie.Need-returns-2 Inv-loop μ-loop
 returns-2 c = let f = integrandOf (c .before .before .before .before .before .before .before .before .before .before .before .before .before .before .before .before .before .before .before .before .before .before .args .weights .now) in

@@ -35,7 +35,12 @@ same-length : tie.Need-same-length
 same-length c = search needs
 
 returns : tie.Need-returns
-returns c = rw (c .before .before .put3 .ensures, c .before .before .before .before .before .before .put2 .ensures, c .before .before .before .before .before .before .before .before .before .before .put .ensures, c .before .before .before .before .before .before .before .before .before .before .before .part-at .ensures) (replaced-in (c .before .before .before .before .before .before .before .before .before .before .before .before .before .before .before .args .n) (c .before .before .before .before .before .before .before .before .before .before .before .before .before .before .before .args .w) (c .before .before .before .before .before .before .before .before .before .before .before .before .before .before .before .args .left) (c .before .before .before .before .before .before .before .before .before .before .before .before .before .before .before .args .right) (c .before .before .before .before .before .before .before .before .before .before .before .before .before .before .before .args .room .now) (omega arith) (omega arith))
+returns c =
+    let args = c .before .before .before .before .before .before .before .before .before .before .before .before .before .before .before .args in
+    let part-at = c .before .before .before .before .before .before .before .before .before .before .before .part-at in
+    let put = c .before .before .before .before .before .before .before .before .before .before .put in
+    let put2 = c .before .before .before .before .before .before .put2 in
+    rw (c .before .before .put3 .ensures, put2 .ensures, put .ensures, part-at .ensures) (replaced-in (args .n) (args .w) (args .left) (args .right) (args .room .now) (omega arith) (omega arith))
 
 pub replace-spec : {M : Type 1} → statement M
 replace-spec =

@@ -28,7 +28,9 @@ last-greatest-requires c κs = simp (length-take, length-drop) (omega arith)
 
 returns : tie.Need-returns
 unfolding storedAt
-returns c = (rw (run-in (λ p. p .error) 6003 (c .before .before .before .args .n) (c .before .before .before .args .room .now) (λ i. refl) refl (omega arith), length-map (partsIn (c .before .before .before .args .n) (c .before .before .before .args .room .now)) (λ p. p .error), length-in (c .before .before .before .args .n) (c .before .before .before .args .room .now)) at (c .last-greatest .ensures .0), c .last-greatest .ensures .1 ∙ ap lastGreatest (run-in (λ p. p .error) 6003 (c .before .before .before .args .n) (c .before .before .before .args .room .now) (λ i. refl) refl (omega arith)))
+returns c =
+    let args = c .before .before .before .args in
+    (rw (run-in (λ p. p .error) 6003 (args .n) (args .room .now) (λ i. refl) refl (omega arith), length-map (partsIn (args .n) (args .room .now)) (λ p. p .error), length-in (args .n) (args .room .now)) at (c .last-greatest .ensures .0), c .last-greatest .ensures .1 ∙ ap lastGreatest (run-in (λ p. p .error) 6003 (args .n) (args .room .now) (λ i. refl) refl (omega arith)))
 
 pub worst-spec : {M : Type 1} → statement M
 worst-spec =

@@ -81,7 +81,11 @@ loop-less : tie.Need-loop-less Inv-loop μ-loop
 loop-less c = search needs
 
 loop-again : tie.Need-loop-again Inv-loop μ-loop
-loop-again c = (omega arith, search needs, rw (c .before .before .add-four .ensures, c .before .before .before .before .before .before .before .before .before .before .loop .inv .2) (four-row _ _ _ _ _ _ _ _ _ _ _ _ _ (c .before .before .before .before .before .before .before .before .before .loop-test .taken) (c .before .before .before .before .before .before .before .before .place .ensures .0) refl))
+loop-again c =
+    let loop = c .before .before .before .before .before .before .before .before .before .before .loop in
+    let loop-test = c .before .before .before .before .before .before .before .before .before .loop-test in
+    let place = c .before .before .before .before .before .before .before .before .place in
+    (omega arith, search needs, rw (c .before .before .add-four .ensures, loop .inv .2) (four-row _ _ _ _ _ _ _ _ _ _ _ _ _ (loop-test .taken) (place .ensures .0) refl))
 
 same-length : tie.Need-same-length Inv-loop μ-loop
 same-length c = search needs

@@ -30,7 +30,11 @@ returns c = ap checkOf (sym (met-decides _ _ _ (sym (c .before .before .before .
 
 loop-again : tie.Need-loop-again Inv-loop μ-loop
 unfolding dueAt
-loop-again c = (omega arith, rw (add-one (c .before .before .before .before .before .before .loop .i), ← c .before .entry-at .ensures) (c .body-end .ensures), sym (sound-passes _ _ _ (sym (c .before .before .before .before .entry-fault .ensures) ∙ c .before .before .enum-told .given .1)) ∙ rw (sub-step (c .before .before .before .before .before .loop-test .taken)) at (c .before .before .before .before .before .before .loop .inv .2))
+loop-again c =
+    let loop = c .before .before .before .before .before .before .loop in
+    let loop-test = c .before .before .before .before .before .loop-test in
+    let entry-fault = c .before .before .before .before .entry-fault in
+    (omega arith, rw (add-one (loop .i), ← c .before .entry-at .ensures) (c .body-end .ensures), sym (sound-passes _ _ _ (sym (entry-fault .ensures) ∙ c .before .before .enum-told .given .1)) ∙ rw (sub-step (loop-test .taken)) at (loop .inv .2))
 
 returns-2 : tie.Need-returns-2 Inv-loop μ-loop
 returns-2 c =

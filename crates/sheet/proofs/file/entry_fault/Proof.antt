@@ -19,15 +19,35 @@ returns-3 c = rw (← c .before .before .before .before .before .before .entry-a
 
 returns-4 : tie.Need-returns-4
 unfolding meets
-returns-4 c = rw (← c .before .before .before .before .before .before .before .before .entry-at .ensures, le-ltb _ _ (c .before .before .before .before .before .before .if1 .left), le-ltb _ _ (c .before .before .before .before .if2 .left), ← c .before .before .before .little-endian .ensures, eq-eqb _ _ (c .before .before .if3 .left), ← c .before .before .before .before .before .before .before .before .before .before .pre .1, ne-eqb _ _ (c .if4 .taken))
+returns-4 c =
+    let pre = c .before .before .before .before .before .before .before .before .before .before .pre in
+    let entry-at = c .before .before .before .before .before .before .before .before .entry-at in
+    let if1 = c .before .before .before .before .before .before .if1 in
+    let if2 = c .before .before .before .before .if2 in
+    let little-endian = c .before .before .before .little-endian in
+    rw (← entry-at .ensures, le-ltb _ _ (if1 .left), le-ltb _ _ (if2 .left), ← little-endian .ensures, eq-eqb _ _ (c .before .before .if3 .left), ← pre .1, ne-eqb _ _ (c .if4 .taken))
 
 returns-5 : tie.Need-returns-5
 unfolding meets
-returns-5 c = rw (← c .before .before .before .before .before .before .before .before .before .before .entry-at .ensures, le-ltb _ _ (c .before .before .before .before .before .before .before .before .if1 .left), le-ltb _ _ (c .before .before .before .before .before .before .if2 .left), ← c .before .before .before .before .before .little-endian .ensures, eq-eqb _ _ (c .before .before .before .before .if3 .left), ← c .before .before .before .before .before .before .before .before .before .before .before .before .pre .1, eq-eqb _ _ (c .before .before .if4 .left), ← c .before .body-end .ensures, lt-ltb _ _ (c .if5 .taken))
+returns-5 c =
+    let pre = c .before .before .before .before .before .before .before .before .before .before .before .before .pre in
+    let entry-at = c .before .before .before .before .before .before .before .before .before .before .entry-at in
+    let if1 = c .before .before .before .before .before .before .before .before .if1 in
+    let if2 = c .before .before .before .before .before .before .if2 in
+    let little-endian = c .before .before .before .before .before .little-endian in
+    let if3 = c .before .before .before .before .if3 in
+    rw (← entry-at .ensures, le-ltb _ _ (if1 .left), le-ltb _ _ (if2 .left), ← little-endian .ensures, eq-eqb _ _ (if3 .left), ← pre .1, eq-eqb _ _ (c .before .before .if4 .left), ← c .before .body-end .ensures, lt-ltb _ _ (c .if5 .taken))
 
 returns-6 : tie.Need-returns-6
 unfolding meets
-returns-6 c = rw (← c .before .before .before .before .before .before .before .before .before .before .entry-at .ensures, le-ltb _ _ (c .before .before .before .before .before .before .before .before .if1 .left), le-ltb _ _ (c .before .before .before .before .before .before .if2 .left), ← c .before .before .before .before .before .little-endian .ensures, eq-eqb _ _ (c .before .before .before .before .if3 .left), ← c .before .before .before .before .before .before .before .before .before .before .before .before .pre .1, eq-eqb _ _ (c .before .before .if4 .left), ← c .before .body-end .ensures, le-ltb _ _ (c .if5 .left))
+returns-6 c =
+    let pre = c .before .before .before .before .before .before .before .before .before .before .before .before .pre in
+    let entry-at = c .before .before .before .before .before .before .before .before .before .before .entry-at in
+    let if1 = c .before .before .before .before .before .before .before .before .if1 in
+    let if2 = c .before .before .before .before .before .before .if2 in
+    let little-endian = c .before .before .before .before .before .little-endian in
+    let if3 = c .before .before .before .before .if3 in
+    rw (← entry-at .ensures, le-ltb _ _ (if1 .left), le-ltb _ _ (if2 .left), ← little-endian .ensures, eq-eqb _ _ (if3 .left), ← pre .1, eq-eqb _ _ (c .before .before .if4 .left), ← c .before .body-end .ensures, le-ltb _ _ (c .if5 .left))
 
 pub entry-fault-spec : {M : Type 1} → statement M
 entry-fault-spec =

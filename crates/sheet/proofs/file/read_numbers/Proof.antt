@@ -25,7 +25,10 @@ unfolding table
 loop-holds c = (omega arith, refl, refl)
 
 loop-again : tie.Need-loop-again Inv-loop μ-loop
-loop-again c = (omega arith, simp length-set (c .before .before .loop .inv .1), rw (c .before .before .loop .inv .2, c .body-number .ensures) (fill-more nan (λ t. bodyNumber (c .before .before .before .before .before .args .file .now) (c .before .before .before .before .before .args .e) (c .before .before .before .before .before .args .first + t)) (c .before .before .before .before .before .args .run .now) (c .before .before .loop .t) (omega arith)))
+loop-again c =
+    let args = c .before .before .before .before .before .args in
+    let loop = c .before .before .loop in
+    (omega arith, simp length-set (loop .inv .1), rw (loop .inv .2, c .body-number .ensures) (fill-more nan (λ t. bodyNumber (args .file .now) (args .e) (args .first + t)) (args .run .now) (loop .t) (omega arith)))
 
 returns : tie.Need-returns Inv-loop μ-loop
 returns c = c .before .loop .inv .2 ∙ rw (le-antisymm (c .before .loop .inv .0) (c .loop-test .left))

@@ -22,7 +22,10 @@ loop-holds : tie.Need-loop-holds Inv-loop μ-loop
 loop-holds c = (omega arith, refl, refl, sym (put-none (c .args .at) (c .args .out .now)))
 
 loop-again : tie.Need-loop-again Inv-loop μ-loop
-loop-again c = (omega arith, search needs, simp length-set (c .before .before .loop .inv .2), rw (c .before .before .loop .inv .3, add-one (c .before .before .loop .t), take-suc (c .before .before .before .args .s .now) (c .before .before .loop .t) 0 (omega arith)) (put-after (c .before .before .before .args .at) (c .before .before .loop .t) _ _ _ (length-take-le (c .before .before .loop .t) (c .before .before .before .args .s .now) (c .before .before .loop .inv .0)) (omega arith)))
+loop-again c =
+    let args = c .before .before .before .args in
+    let loop = c .before .before .loop in
+    (omega arith, search needs, simp length-set (loop .inv .2), rw (loop .inv .3, add-one (loop .t), take-suc (args .s .now) (loop .t) 0 (omega arith)) (put-after (args .at) (loop .t) _ _ _ (length-take-le (loop .t) (args .s .now) (loop .inv .0)) (omega arith)))
 
 returns : tie.Need-returns Inv-loop μ-loop
 returns c = c .before .loop .inv .3 ∙ rw (take-all (c .before .loop .t) (c .before .before .args .s .now) (omega arith))

@@ -8,7 +8,9 @@ use Rattle.sheet.proofs.lines.put_word.Statement.{statement}
 use Rattle.sheet.proofs.lines.put_word.Tie as tie
 
 returns : tie.Need-returns
-returns c = (refl, rw (c .before .before .put-digits .ensures) (put-after (c .before .before .before .before .before .args .at) (c .before .before .before .before .before .args .k) _ _ (c .before .before .before .before .before .args .after) (length-digits (c .before .before .before .before .before .args .base) (c .before .before .before .before .before .args .k) (c .before .before .before .before .before .args .n)) (omega arith)))
+returns c =
+    let args = c .before .before .before .before .before .args in
+    (refl, rw (c .before .before .put-digits .ensures) (put-after (args .at) (args .k) _ _ (args .after) (length-digits (args .base) (args .k) (args .n)) (omega arith)))
 
 pub put-word-spec : {M : Type 1} → statement M
 put-word-spec =

@@ -162,13 +162,27 @@ shared-slice-read-add-four-4 : tie.Need-shared-slice-read-add-four-4
 shared-slice-read-add-four-4 c = search needs
 
 add-four-requires : tie.Need-add-four-requires
-add-four-requires c κs = (omega (arith, c .before .before .before .before .before .before .before .before .before .before .before .before .before .before .before .before .pre .0, row-long (c .before .before .before .before .before .before .before .before .before .before .before .before .before .before .before .before .args .n) (c .before .before .before .before .before .before .before .before .before .before .before .before .before .before .before .before .args .c) (c .before .before .before .before .before .before .before .before .before .before .before .before .before .before .before .before .args .a .now) (c .before .before .before .before .before .before .before .before .before .before .before .before .before .before .before .before .args .v .now) (c .before .before .before .before .before .before .before .before .before .before .before .before .before .before .before .before .pre .2) (c .before .before .before .before .before .before .before .before .before .before .before .before .before .before .before .before .pre .3) (c .before .before .before .before .before .before .before .before .before .before .before .before .before .before .before .before .args .t) (c .before .before .before .before .before .before .before .before .before .before .before .before .place .result) (length (c .before .before .before .before .before .before .before .before .before .before .before .before .before .before .before .before .args .v .now)) (omega (arith, c .before .before .before .before .before .before .before .before .before .before .before .before .before .before .before .before .pre .4)) (c .before .before .before .before .before .before .before .before .before .before .before .before .before .before .before .before .pre .1) (c .before .before .before .before .before .before .before .before .before .before .before .before .place .ensures .0)), omega (arith, c .before .before .before .before .before .before .before .before .before .before .before .before .before .before .before .before .pre .0, row-long (c .before .before .before .before .before .before .before .before .before .before .before .before .before .before .before .before .args .n) (c .before .before .before .before .before .before .before .before .before .before .before .before .before .before .before .before .args .c) (c .before .before .before .before .before .before .before .before .before .before .before .before .before .before .before .before .args .a .now) (c .before .before .before .before .before .before .before .before .before .before .before .before .before .before .before .before .args .v .now) (c .before .before .before .before .before .before .before .before .before .before .before .before .before .before .before .before .pre .2) (c .before .before .before .before .before .before .before .before .before .before .before .before .before .before .before .before .pre .3) (c .before .before .before .before .before .before .before .before .before .before .before .before .before .before .before .before .args .t + 1) (c .before .before .before .before .before .before .before .before .before .before .before .place2 .result) (length (c .before .before .before .before .before .before .before .before .before .before .before .before .before .before .before .before .args .v .now)) (omega (arith, c .before .before .before .before .before .before .before .before .before .before .before .before .before .before .before .before .pre .4)) (c .before .before .before .before .before .before .before .before .before .before .before .before .before .before .before .before .pre .1) (c .before .before .before .before .before .before .before .before .before .before .before .place2 .ensures .0)), omega (arith, c .before .before .before .before .before .before .before .before .before .before .before .before .before .before .before .before .pre .0, row-long (c .before .before .before .before .before .before .before .before .before .before .before .before .before .before .before .before .args .n) (c .before .before .before .before .before .before .before .before .before .before .before .before .before .before .before .before .args .c) (c .before .before .before .before .before .before .before .before .before .before .before .before .before .before .before .before .args .a .now) (c .before .before .before .before .before .before .before .before .before .before .before .before .before .before .before .before .args .v .now) (c .before .before .before .before .before .before .before .before .before .before .before .before .before .before .before .before .pre .2) (c .before .before .before .before .before .before .before .before .before .before .before .before .before .before .before .before .pre .3) (c .before .before .before .before .before .before .before .before .before .before .before .before .before .before .before .before .args .t + 2) (c .before .before .before .before .before .before .before .before .before .before .place3 .result) (length (c .before .before .before .before .before .before .before .before .before .before .before .before .before .before .before .before .args .v .now)) (omega (arith, c .before .before .before .before .before .before .before .before .before .before .before .before .before .before .before .before .pre .4)) (c .before .before .before .before .before .before .before .before .before .before .before .before .before .before .before .before .pre .1) (c .before .before .before .before .before .before .before .before .before .before .place3 .ensures .0)), omega (arith, c .before .before .before .before .before .before .before .before .before .before .before .before .before .before .before .before .pre .0, row-long (c .before .before .before .before .before .before .before .before .before .before .before .before .before .before .before .before .args .n) (c .before .before .before .before .before .before .before .before .before .before .before .before .before .before .before .before .args .c) (c .before .before .before .before .before .before .before .before .before .before .before .before .before .before .before .before .args .a .now) (c .before .before .before .before .before .before .before .before .before .before .before .before .before .before .before .before .args .v .now) (c .before .before .before .before .before .before .before .before .before .before .before .before .before .before .before .before .pre .2) (c .before .before .before .before .before .before .before .before .before .before .before .before .before .before .before .before .pre .3) (c .before .before .before .before .before .before .before .before .before .before .before .before .before .before .before .before .args .t + 3) (c .before .before .before .before .before .before .before .before .before .place4 .result) (length (c .before .before .before .before .before .before .before .before .before .before .before .before .before .before .before .before .args .v .now)) (omega (arith, c .before .before .before .before .before .before .before .before .before .before .before .before .before .before .before .before .pre .4)) (c .before .before .before .before .before .before .before .before .before .before .before .before .before .before .before .before .pre .1) (c .before .before .before .before .before .before .before .before .before .place4 .ensures .0)))
+add-four-requires c κs =
+    let pre = c .before .before .before .before .before .before .before .before .before .before .before .before .before .before .before .before .pre in
+    let args = c .before .before .before .before .before .before .before .before .before .before .before .before .before .before .before .before .args in
+    let place = c .before .before .before .before .before .before .before .before .before .before .before .before .place in
+    let place2 = c .before .before .before .before .before .before .before .before .before .before .before .place2 in
+    let place3 = c .before .before .before .before .before .before .before .before .before .before .place3 in
+    let place4 = c .before .before .before .before .before .before .before .before .before .place4 in
+    (omega (arith, pre .0, row-long (args .n) (args .c) (args .a .now) (args .v .now) (pre .2) (pre .3) (args .t) (place .result) (length (args .v .now)) (omega (arith, pre .4)) (pre .1) (place .ensures .0)), omega (arith, pre .0, row-long (args .n) (args .c) (args .a .now) (args .v .now) (pre .2) (pre .3) (args .t + 1) (place2 .result) (length (args .v .now)) (omega (arith, pre .4)) (pre .1) (place2 .ensures .0)), omega (arith, pre .0, row-long (args .n) (args .c) (args .a .now) (args .v .now) (pre .2) (pre .3) (args .t + 2) (place3 .result) (length (args .v .now)) (omega (arith, pre .4)) (pre .1) (place3 .ensures .0)), omega (arith, pre .0, row-long (args .n) (args .c) (args .a .now) (args .v .now) (pre .2) (pre .3) (args .t + 3) (place4 .result) (length (args .v .now)) (omega (arith, pre .4)) (pre .1) (place4 .ensures .0)))
 
 same-length : tie.Need-same-length
 same-length c = search needs
 
 returns : tie.Need-returns
-returns c = c .before .before .add-four .ensures ∙ four-rows (c .before .before .before .before .before .before .before .before .before .before .before .before .before .before .before .before .before .before .before .args .n) (c .before .before .before .before .before .before .before .before .before .before .before .before .before .before .before .before .before .before .before .args .c) (c .before .before .before .before .before .before .before .before .before .before .before .before .before .before .before .before .before .before .before .args .a .now) (c .before .before .before .before .before .before .before .before .before .before .before .before .before .before .before .before .before .before .before .args .v .now) (c .before .before .before .before .before .before .before .before .before .before .before .before .before .before .before .before .before .before .before .args .p .now) (c .before .before .before .before .before .before .before .before .before .before .before .before .before .before .before .before .before .before .before .args .t) (c .before .before .before .before .before .before .before .before .before .before .before .before .before .before .before .place .result) (c .before .before .before .before .before .before .before .before .before .before .before .before .before .before .place2 .result) (c .before .before .before .before .before .before .before .before .before .before .before .before .before .place3 .result) (c .before .before .before .before .before .before .before .before .before .before .before .before .place4 .result) (length (c .before .before .before .before .before .before .before .before .before .before .before .before .before .before .before .before .before .before .before .args .v .now)) (c .before .before .before .before .before .before .before .before .before .before .before .before .before .before .before .before .before .before .before .pre .2) (c .before .before .before .before .before .before .before .before .before .before .before .before .before .before .before .before .before .before .before .pre .3) (c .before .before .before .before .before .before .before .before .before .before .before .before .before .before .before .before .before .before .before .pre .4) (c .before .before .before .before .before .before .before .before .before .before .before .before .before .before .before .before .before .before .before .pre .1) (c .before .before .before .before .before .before .before .before .before .before .before .before .before .before .before .before .before .before .before .pre .0) (c .before .before .before .before .before .before .before .before .before .before .before .before .before .before .before .place .ensures .0) (c .before .before .before .before .before .before .before .before .before .before .before .before .before .before .place2 .ensures .0) (c .before .before .before .before .before .before .before .before .before .before .before .before .before .place3 .ensures .0) (c .before .before .before .before .before .before .before .before .before .before .before .before .place4 .ensures .0)
+returns c =
+    let args = c .before .before .before .before .before .before .before .before .before .before .before .before .before .before .before .before .before .before .before .args in
+    let pre = c .before .before .before .before .before .before .before .before .before .before .before .before .before .before .before .before .before .before .before .pre in
+    let place = c .before .before .before .before .before .before .before .before .before .before .before .before .before .before .before .place in
+    let place2 = c .before .before .before .before .before .before .before .before .before .before .before .before .before .before .place2 in
+    let place3 = c .before .before .before .before .before .before .before .before .before .before .before .before .before .place3 in
+    let place4 = c .before .before .before .before .before .before .before .before .before .before .before .before .place4 in
+    c .before .before .add-four .ensures ∙ four-rows (args .n) (args .c) (args .a .now) (args .v .now) (args .p .now) (args .t) (place .result) (place2 .result) (place3 .result) (place4 .result) (length (args .v .now)) (pre .2) (pre .3) (pre .4) (pre .1) (pre .0) (place .ensures .0) (place2 .ensures .0) (place3 .ensures .0) (place4 .ensures .0)
 
 pub add-four-rows-spec : {M : Type 1} → statement M
 add-four-rows-spec =

@@ -36,7 +36,10 @@ same-length : tie.Need-same-length
 same-length c = search needs
 
 returns : tie.Need-returns
-returns c = c .before .before .copy .ensures ∙ column-of-row _ _ _ _ _ (c .before .before .before .before .before .before .before .before .pre .1) (c .before .before .before .before .before .before .before .before .pre .2) (c .before .before .before .before .before .before .before .before .pre .3) (c .before .before .before .before .before .before .before .before .pre .0) (c .before .before .before .before .before .place .ensures .0)
+returns c =
+    let pre = c .before .before .before .before .before .before .before .before .pre in
+    let place = c .before .before .before .before .before .place in
+    c .before .before .copy .ensures ∙ column-of-row _ _ _ _ _ (pre .1) (pre .2) (pre .3) (pre .0) (place .ensures .0)
 
 pub copy-column-spec : {M : Type 1} → statement M
 copy-column-spec =

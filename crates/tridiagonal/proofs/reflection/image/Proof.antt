@@ -96,13 +96,20 @@ loop2-less : tie.Need-loop2-less Inv-loop μ-loop Inv-loop2 μ-loop2
 loop2-less c = search needs
 
 loop2-again : tie.Need-loop2-again Inv-loop μ-loop Inv-loop2 μ-loop2
-loop2-again c = (omega arith, search needs, search needs, c .before .before .add-multiple .ensures ∙ rw (c .before .before .before .before .before .before .before .before .loop2 .inv .3) (image-more _ _ _ _ _ _ _ (c .before .before .before .before .before .before .before .before .before .before .before .before .before .before .before .before .before .before .pre .2) (c .before .before .before .before .before .before .before .before .before .before .before .before .before .before .before .before .before .before .pre .3) (search needs) (c .before .before .before .before .before .before .before .before .loop2 .inv .1) (c .before .before .before .before .before .before .place .ensures .0)))
+loop2-again c =
+    let pre = c .before .before .before .before .before .before .before .before .before .before .before .before .before .before .before .before .before .before .pre in
+    let loop2 = c .before .before .before .before .before .before .before .before .loop2 in
+    let place = c .before .before .before .before .before .before .place in
+    (omega arith, search needs, search needs, c .before .before .add-multiple .ensures ∙ rw (loop2 .inv .3) (image-more _ _ _ _ _ _ _ (pre .2) (pre .3) (search needs) (loop2 .inv .1) (place .ensures .0)))
 
 same-length : tie.Need-same-length Inv-loop μ-loop Inv-loop2 μ-loop2
 same-length c = search needs
 
 returns : tie.Need-returns Inv-loop μ-loop Inv-loop2 μ-loop2
-returns c = c .before .loop2 .inv .3 ∙ rw (le-antisymm (c .before .loop2 .inv .0) (search needs)) (image-all _ _ _ _ (c .before .before .before .before .before .before .before .before .before .before .before .pre .3) (c .before .before .before .before .before .before .before .before .before .before .before .pre .4))
+returns c =
+    let pre = c .before .before .before .before .before .before .before .before .before .before .before .pre in
+    let loop2 = c .before .loop2 in
+    loop2 .inv .3 ∙ rw (le-antisymm (loop2 .inv .0) (search needs)) (image-all _ _ _ _ (pre .3) (pre .4))
 
 pub image-spec : {M : Type 1} → statement M
 image-spec =

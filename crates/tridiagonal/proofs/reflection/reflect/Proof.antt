@@ -54,10 +54,18 @@ same-length-4 : tie.Need-same-length-4
 same-length-4 c = search needs
 
 returns-2 : tie.Need-returns-2
-returns-2 c = flat _ _ _ _ _ _ _ (c .before .before .before .before .before .before .before .before .before .before .before .before .copy-column .ensures) (c .before .before .before .before .before .before .before .before .sum-squares .ensures) (c .before .before .before .before .before .before .before .sqrt .ensures) (c .before .before .before .before .before .before .if1 .left) (c .before .before .before .before .signed .ensures) _ (c .before .sum-squares2 .ensures) (c .if2 .taken)
+returns-2 c =
+    let copy-column = c .before .before .before .before .before .before .before .before .before .before .before .before .copy-column in
+    let sum-squares = c .before .before .before .before .before .before .before .before .sum-squares in
+    let sqrt = c .before .before .before .before .before .before .before .sqrt in
+    let if1 = c .before .before .before .before .before .before .if1 in
+    let signed = c .before .before .before .before .signed in
+    flat _ _ _ _ _ _ _ (copy-column .ensures) (sum-squares .ensures) (sqrt .ensures) (if1 .left) (signed .ensures) _ (c .before .sum-squares2 .ensures) (c .if2 .taken)
 
 turn-requires : tie.Need-turn-requires
-turn-requires c κs = (c .before .before .before .before .before .before .before .before .before .before .before .before .before .before .before .before .before .before .before .before .before .pre .0, c .before .before .before .before .before .before .before .before .before .before .before .before .before .before .before .before .before .before .before .before .before .pre .1, simp length-set (omega arith), search needs, c .before .before .before .before .before .before .before .before .before .before .before .before .before .before .before .before .before .before .before .before .before .pre .4)
+turn-requires c κs =
+    let pre = c .before .before .before .before .before .before .before .before .before .before .before .before .before .before .before .before .before .before .before .before .before .pre in
+    (pre .0, pre .1, simp length-set (omega arith), search needs, pre .4)
 
 same-length-5 : tie.Need-same-length-5
 same-length-5 c = search needs
@@ -69,7 +77,16 @@ same-length-7 : tie.Need-same-length-7
 same-length-7 c = search needs
 
 returns-3 : tie.Need-returns-3
-returns-3 c = c .before .before .before .before .turn .ensures ∙ turned _ _ _ _ _ _ _ (c .before .before .before .before .before .before .before .before .before .before .before .before .before .before .before .before .before .before .before .before .copy-column .ensures) (c .before .before .before .before .before .before .before .before .before .before .before .before .before .before .before .before .sum-squares .ensures) (c .before .before .before .before .before .before .before .before .before .before .before .before .before .before .before .sqrt .ensures) (c .before .before .before .before .before .before .before .before .before .before .before .before .before .before .if1 .left) (c .before .before .before .before .before .before .before .before .before .before .before .before .signed .ensures) _ (c .before .before .before .before .before .before .before .before .before .sum-squares2 .ensures) (c .before .before .before .before .before .before .before .before .if2 .left)
+returns-3 c =
+    let copy-column = c .before .before .before .before .before .before .before .before .before .before .before .before .before .before .before .before .before .before .before .before .copy-column in
+    let sum-squares = c .before .before .before .before .before .before .before .before .before .before .before .before .before .before .before .before .sum-squares in
+    let sqrt = c .before .before .before .before .before .before .before .before .before .before .before .before .before .before .before .sqrt in
+    let if1 = c .before .before .before .before .before .before .before .before .before .before .before .before .before .before .if1 in
+    let signed = c .before .before .before .before .before .before .before .before .before .before .before .before .signed in
+    let sum-squares2 = c .before .before .before .before .before .before .before .before .before .sum-squares2 in
+    let if2 = c .before .before .before .before .before .before .before .before .if2 in
+    let turn = c .before .before .before .before .turn in
+    turn .ensures ∙ turned _ _ _ _ _ _ _ (copy-column .ensures) (sum-squares .ensures) (sqrt .ensures) (if1 .left) (signed .ensures) _ (sum-squares2 .ensures) (if2 .left)
 
 pub reflect-spec : {M : Type 1} → statement M
 reflect-spec =

@@ -33,7 +33,13 @@ same-length-2 : tie.Need-same-length-2
 same-length-2 c = search needs
 
 returns : tie.Need-returns
-returns c = c .before .before .mirror-row .ensures ∙ rw (← c .before .before .before .before .before .before .before .before .before .before .before .before .before .before .before .before .before .before .before .image .ensures, ← c .before .before .before .before .before .before .before .before .before .before .before .before .before .before .before .correct .ensures) (turn-of _ _ _ _ _ _ _ _ (c .before .before .before .before .before .before .before .before .before .before .before .before .before .before .before .before .before .before .before .before .before .before .before .before .before .pre .1) (c .before .before .before .before .before .before .before .before .before .before .update .ensures) (c .before .before .before .before .before .before .clear-row .ensures))
+returns c =
+    let pre = c .before .before .before .before .before .before .before .before .before .before .before .before .before .before .before .before .before .before .before .before .before .before .before .before .before .pre in
+    let image = c .before .before .before .before .before .before .before .before .before .before .before .before .before .before .before .before .before .before .before .image in
+    let correct = c .before .before .before .before .before .before .before .before .before .before .before .before .before .before .before .correct in
+    let update = c .before .before .before .before .before .before .before .before .before .before .update in
+    let clear-row = c .before .before .before .before .before .before .clear-row in
+    c .before .before .mirror-row .ensures ∙ rw (← image .ensures, ← correct .ensures) (turn-of _ _ _ _ _ _ _ _ (pre .1) (update .ensures) (clear-row .ensures))
 
 pub turn-spec : {M : Type 1} → statement M
 turn-spec =

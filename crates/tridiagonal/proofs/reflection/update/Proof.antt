@@ -74,7 +74,11 @@ loop-less : tie.Need-loop-less Inv-loop μ-loop
 loop-less c = search needs
 
 loop-again : tie.Need-loop-again Inv-loop μ-loop
-loop-again c = (omega arith, search needs, search needs, rw (c .before .before .take-multiples .ensures, c .before .before .before .before .before .before .before .before .loop .inv .3) (update-row _ _ _ _ _ _ _ _ (c .before .before .before .before .before .before .before .before .before .before .before .before .pre .3) (search needs) (c .before .before .before .before .before .before .before .before .before .before .before .before .pre .1) (c .before .before .before .before .before .before .place .ensures .0)))
+loop-again c =
+    let pre = c .before .before .before .before .before .before .before .before .before .before .before .before .pre in
+    let loop = c .before .before .before .before .before .before .before .before .loop in
+    let place = c .before .before .before .before .before .before .place in
+    (omega arith, search needs, search needs, rw (c .before .before .take-multiples .ensures, loop .inv .3) (update-row _ _ _ _ _ _ _ _ (pre .3) (search needs) (pre .1) (place .ensures .0)))
 
 same-length : tie.Need-same-length Inv-loop μ-loop
 same-length c = search needs
