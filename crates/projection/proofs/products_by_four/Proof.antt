@@ -3,21 +3,14 @@ use Rattle.floats.specs.Words.{minusZero}
 use Rattle.floats.specs.Tables.{table}
 use Rattle.floats.proofs.TableLaws.{length-table}
 use Rattle.projection.proofs.RoomLaws.{half-lent, termsTo, terms-begin, terms-more, terms-four, terms-same, terms-carry, terms-self, terms-all}
-use Prim.Native.Nat.{ℕ, zero, suc, _≤_, _<_, _-_, _*_, _+_}
+use Prim.Native.Nat.{_≤_, _-_, _*_, _+_}
 use native.Mathlib.Omega.{arith}
-use native.Mathlib.Numerals.{add-one}
 use native.Mathlib.Nat.{le-antisymm}
 use mathlib.Core.Path.{_≡_, refl, ap, sym, _∙_}
-use lib.ListN.{length, getD, set, length-set}
+use lib.ListN.{length}
 use borrow.Author.Needs.{needs}
 use Rattle.projection.proofs.products_by_four.Statement.{statement}
 use Rattle.projection.proofs.products_by_four.Tie as tie
-use Rattle.projection.proofs.products_by_four.Reads as reads
-use Rattle.projection.proofs.products_by_four.Lts as lts
-use Rattle.projection.proofs.add_four_terms.Reads as add-four-terms-reads
-use Rattle.projection.proofs.add_term.Reads as add-term-reads
-use Rattle.projection.proofs.matrix.mirror.Reads as mirror-reads
-use Rattle.projection.proofs.rows.fill.Reads as fill-reads
 
 abbrev Inv-loop : tie.InvT-loop
 Inv-loop room₀ p₀ w₀ q₀ x₀ r₀ y₀ s₀ z₀ n half t₀ room p w q x r y s z t = (t ≤ n) × (room ≡ termsTo n room₀ t) × (length room ≡ length room₀) × (n * n + n * n ≤ length room) × (n ≤ 256) × (length p ≡ n) × (length w ≡ n) × (length q ≡ n) × (length x ≡ n) × (length r ≡ n) × (length y ≡ n) × (length s ≡ n) × (length z ≡ n)
@@ -31,17 +24,8 @@ Inv-loop2 room₀ p₀ w₀ q x r y s z n half t₀ room p w t = (t ≤ n) × (r
 abbrev μ-loop2 : tie.MeasureT-loop2
 μ-loop2 room₀ p₀ w₀ q x r y s z n half t₀ room p w t = n - t
 
-mul-half : tie.Need-mul-half Inv-loop μ-loop Inv-loop2 μ-loop2
-mul-half c = search needs
-
-slice-relend-prefix-fill : tie.Need-slice-relend-prefix-fill Inv-loop μ-loop Inv-loop2 μ-loop2
-slice-relend-prefix-fill c = search needs
-
 slice-aggregate-fill : tie.Need-slice-aggregate-fill Inv-loop μ-loop Inv-loop2 μ-loop2
 slice-aggregate-fill c = half-lent _ (c .before .before .before .before .before .before .before .before .before .before .args .room .now) (c .before .before .before .before .before .before .before .before .before .before .pre .0)
-
-fill-requires : tie.Need-fill-requires Inv-loop μ-loop Inv-loop2 μ-loop2
-fill-requires c κs = search needs
 
 loop-holds : tie.Need-loop-holds Inv-loop μ-loop Inv-loop2 μ-loop2
 loop-holds c =
@@ -50,18 +34,6 @@ loop-holds c =
     let fill = c .before .before .fill in
     let e = fill .ensures ∙ ap (table (λ j. minusZero)) (sym (half-lent _ (args .room .now) (pre .0))) in
     (omega arith, terms-begin _ _ (args .room .now) (ap length e ∙ length-table _ _) e, refl, rw (length-front (args .room .now) (fill .last .0) (args .n * args .n) (search needs)) (pre .0), pre .1, pre .2, pre .3, pre .4, pre .5, pre .6, pre .7, pre .8, pre .9)
-
-add-loop : tie.Need-add-loop Inv-loop μ-loop Inv-loop2 μ-loop2
-add-loop c = search needs
-
-add-four-terms-requires : tie.Need-add-four-terms-requires Inv-loop μ-loop Inv-loop2 μ-loop2
-add-four-terms-requires c κs = search needs
-
-add-t : tie.Need-add-t Inv-loop μ-loop Inv-loop2 μ-loop2
-add-t c = search needs
-
-loop-less : tie.Need-loop-less Inv-loop μ-loop Inv-loop2 μ-loop2
-loop-less c = search needs
 
 loop-again : tie.Need-loop-again Inv-loop μ-loop Inv-loop2 μ-loop2
 loop-again c =
@@ -72,56 +44,17 @@ loop-again c =
 loop2-holds : tie.Need-loop2-holds Inv-loop μ-loop Inv-loop2 μ-loop2
 loop2-holds c = (c .before .loop .inv .0, terms-self _ _ _ _ (c .before .loop .inv .1), refl, c .before .loop .inv .3, c .before .loop .inv .4, c .before .loop .inv .5, c .before .loop .inv .6)
 
-add-term-requires : tie.Need-add-term-requires Inv-loop μ-loop Inv-loop2 μ-loop2
-add-term-requires c κs = search needs
-
-add-t-2 : tie.Need-add-t-2 Inv-loop μ-loop Inv-loop2 μ-loop2
-add-t-2 c = search needs
-
-loop2-less : tie.Need-loop2-less Inv-loop μ-loop Inv-loop2 μ-loop2
-loop2-less c = search needs
-
 loop2-again : tie.Need-loop2-again Inv-loop μ-loop Inv-loop2 μ-loop2
 loop2-again c =
     let loop2 = c .before .before .before .before .before .before .before .before .before .before .before .loop2 in
     let add-term = c .before .before .before .before .before .before .add-term in
     (omega arith, add-term .ensures ∙ terms-more _ _ _ _ (loop2 .inv .1), search needs, omega arith, loop2 .inv .4, search needs, search needs)
 
-slice-relend-prefix-mirror : tie.Need-slice-relend-prefix-mirror Inv-loop μ-loop Inv-loop2 μ-loop2
-slice-relend-prefix-mirror c = search needs
-
 slice-aggregate-mirror : tie.Need-slice-aggregate-mirror Inv-loop μ-loop Inv-loop2 μ-loop2
 slice-aggregate-mirror c = half-lent _ (c .before .before .loop2 .room) (c .before .before .loop2 .inv .3)
 
 mirror-requires : tie.Need-mirror-requires Inv-loop μ-loop Inv-loop2 μ-loop2
 mirror-requires c κs = sym (half-lent _ (c .before .before .loop2 .room) (c .before .before .loop2 .inv .3))
-
-same-length : tie.Need-same-length Inv-loop μ-loop Inv-loop2 μ-loop2
-same-length c = search needs
-
-same-length-2 : tie.Need-same-length-2 Inv-loop μ-loop Inv-loop2 μ-loop2
-same-length-2 c = search needs
-
-same-length-3 : tie.Need-same-length-3 Inv-loop μ-loop Inv-loop2 μ-loop2
-same-length-3 c = search needs
-
-same-length-4 : tie.Need-same-length-4 Inv-loop μ-loop Inv-loop2 μ-loop2
-same-length-4 c = search needs
-
-same-length-5 : tie.Need-same-length-5 Inv-loop μ-loop Inv-loop2 μ-loop2
-same-length-5 c = search needs
-
-same-length-6 : tie.Need-same-length-6 Inv-loop μ-loop Inv-loop2 μ-loop2
-same-length-6 c = search needs
-
-same-length-7 : tie.Need-same-length-7 Inv-loop μ-loop Inv-loop2 μ-loop2
-same-length-7 c = search needs
-
-same-length-8 : tie.Need-same-length-8 Inv-loop μ-loop Inv-loop2 μ-loop2
-same-length-8 c = search needs
-
-same-length-9 : tie.Need-same-length-9 Inv-loop μ-loop Inv-loop2 μ-loop2
-same-length-9 c = search needs
 
 returns : tie.Need-returns Inv-loop μ-loop Inv-loop2 μ-loop2
 returns c =
@@ -138,36 +71,9 @@ returns c =
 pub products-by-four-spec : {M : Type 1} → statement M
 products-by-four-spec =
     tie.close
-    (tie.spec
-    Inv-loop
-    μ-loop
-    Inv-loop2
-    μ-loop2
-    mul-half
-    slice-relend-prefix-fill
-    slice-aggregate-fill
-    fill-requires
-    loop-holds
-    add-loop
-    add-four-terms-requires
-    add-t
-    loop-less
-    loop-again
-    loop2-holds
-    add-term-requires
-    add-t-2
-    loop2-less
-    loop2-again
-    slice-relend-prefix-mirror
-    slice-aggregate-mirror
-    mirror-requires
-    same-length
-    same-length-2
-    same-length-3
-    same-length-4
-    same-length-5
-    same-length-6
-    same-length-7
-    same-length-8
-    same-length-9
-    returns)
+    (tie.spec Inv-loop μ-loop Inv-loop2 μ-loop2 (λ c. search needs) (λ c. search needs) slice-aggregate-fill
+    (λ c κs. search needs) loop-holds (λ c. search needs) (λ c κs. search needs) (λ c. search needs)
+    (λ c. search needs) loop-again loop2-holds (λ c κs. search needs) (λ c. search needs) (λ c. search needs)
+    loop2-again (λ c. search needs) slice-aggregate-mirror mirror-requires (λ c. search needs)
+    (λ c. search needs) (λ c. search needs) (λ c. search needs) (λ c. search needs) (λ c. search needs)
+    (λ c. search needs) (λ c. search needs) (λ c. search needs) returns)

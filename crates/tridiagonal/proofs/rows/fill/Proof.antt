@@ -1,17 +1,12 @@
 use lib.Ieee.{nan}
-use Rattle.floats.specs.Words.{_⊕_, _⊖_, _⊗_, _⊘_, _‼_, two}
-use Rattle.floats.proofs.RowLaws.{filled, filled-none, filled-here, filled-more, filled-all}
-use Prim.Native.Nat.{ℕ, zero, suc, _≤_, _<_, _-_, _*_, _+_}
+use Rattle.floats.proofs.RowLaws.{filled, filled-none, filled-more, filled-all}
+use Prim.Native.Nat.{_≤_, _<_, _-_}
 use native.Mathlib.Omega.{arith}
-use native.Mathlib.Numerals.{add-one}
-use native.Mathlib.Nat.{le-antisymm}
-use mathlib.Core.Path.{_≡_, refl, ap, sym, _∙_}
-use lib.ListN.{length, getD, set, length-set}
+use mathlib.Core.Path.{_≡_, refl, _∙_}
+use lib.ListN.{length, length-set}
 use borrow.Author.Needs.{needs}
 use Rattle.tridiagonal.proofs.rows.fill.Statement.{statement}
 use Rattle.tridiagonal.proofs.rows.fill.Tie as tie
-use Rattle.tridiagonal.proofs.rows.fill.Reads as reads
-use Rattle.tridiagonal.proofs.rows.fill.Lts as lts
 
 abbrev Inv-loop : tie.InvT-loop
 Inv-loop row₀ x j₀ j-end row j = (j ≤ length row₀) × (length row ≡ length row₀) × (j-end ≡ length row₀) × (row ≡ filled (λ j. x) j row₀)
@@ -19,26 +14,8 @@ Inv-loop row₀ x j₀ j-end row j = (j ≤ length row₀) × (length row ≡ le
 abbrev μ-loop : tie.MeasureT-loop
 μ-loop row₀ x j₀ j-end row j = length row₀ - j
 
-loop-holds : tie.Need-loop-holds Inv-loop μ-loop
-loop-holds c = (omega arith, refl, refl, filled-none _ _)
-
-mul-row : tie.Need-mul-row Inv-loop μ-loop
-mul-row c = search needs
-
-slice-write-row : tie.Need-slice-write-row Inv-loop μ-loop
-slice-write-row c = search needs
-
-add-j : tie.Need-add-j Inv-loop μ-loop
-add-j c = search needs
-
-loop-less : tie.Need-loop-less Inv-loop μ-loop
-loop-less c = search needs
-
 loop-again : tie.Need-loop-again Inv-loop μ-loop
 loop-again c = let h : c .before .loop .j < length (c .before .before .args .row .now) = search needs in (omega arith, simp length-set (omega arith), search needs, rw (c .before .loop .inv .3) (filled-more _ _ _ nan h))
-
-same-length : tie.Need-same-length Inv-loop μ-loop
-same-length c = search needs
 
 returns : tie.Need-returns Inv-loop μ-loop
 returns c = c .before .loop .inv .3 ∙ filled-all _ _ _ (search needs) (search needs)
@@ -46,14 +23,5 @@ returns c = c .before .loop .inv .3 ∙ filled-all _ _ _ (search needs) (search 
 pub fill-spec : {M : Type 1} → statement M
 fill-spec =
     tie.close
-    (tie.spec
-    Inv-loop
-    μ-loop
-    loop-holds
-    mul-row
-    slice-write-row
-    add-j
-    loop-less
-    loop-again
-    same-length
-    returns)
+    (tie.spec Inv-loop μ-loop (λ c. (omega arith, refl, refl, filled-none _ _)) (λ c. search needs)
+    (λ c. search needs) (λ c. search needs) (λ c. search needs) loop-again (λ c. search needs) returns)
