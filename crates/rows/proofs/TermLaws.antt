@@ -1,0 +1,197 @@
+-- Laws of sums that go on: none, one more, and that the terms may be added in groups. Assumes nothing.
+use Prim.Native.Nat.{ℕ, zero, suc, _+_, _-_, _*_, _≤_, _<_}
+use native.Mathlib.Nat.{mul-le-mul-right, add-mul, zero-add}
+use native.Mathlib.Numerals.{add-one}
+use native.Mathlib.Omega.{arith}
+use mathlib.Core.Path.{_≡_, refl, ap, sym, _∙_}
+use mathlib.Core.List.{List, _++_, append-nil, append-assoc}
+use lib.ListN.{length, set, drop}
+use lib.Seq.{ext-getD, take-at, drop-at, drop-drop}
+use lib.Ieee.{Float, nan}
+use Rattle.floats.specs.Words.{_⊕_, _⊗_, _‼_, minusZero}
+use Rattle.floats.specs.Sums.{sumOf, sumProducts}
+use Rattle.floats.specs.Tables.{table, part, withPart}
+use Rattle.floats.proofs.ListLaws.{getD-part, sum-same}
+use Rattle.floats.proofs.RowLaws.{filled, filled-more, filled-all}
+use Rattle.floats.proofs.TableLaws.{length-table, getD-table}
+use Rattle.floats.proofs.MatrixLaws.{table-same}
+use Rattle.rows.specs.Terms.{Reach, sumFrom}
+
+module _ (x : Float) (f : ℕ → Float) where
+  pub from-none : sumFrom x 0 f ≡ x
+  unfolding sumFrom
+  from-none = refl
+
+  pub from-more : (k : ℕ) → sumFrom x (k + 1) f ≡ sumFrom x k f ⊕ f k
+  unfolding sumFrom
+  from-more k = rw add-one
+
+  -- t terms, and then k more
+  pub from-group : (t k : ℕ) → sumFrom (sumFrom x t f) k (λ s. f (t + s)) ≡ sumFrom x (t + k) f
+  unfolding sumFrom
+  from-group t zero = let z : t + 0 ≡ t = omega arith in rw z
+  from-group t (suc k) = let z : t + suc k ≡ suc (t + k) = omega arith in rw z (ap (λ y. y ⊕ f (t + k)) (from-group t k))
+
+-- terms that agree below k
+pub from-same : (x : Float) (k : ℕ) (f g : ℕ → Float) → ((t : ℕ) → t < k → f t ≡ g t) → sumFrom x k f ≡ sumFrom x k g
+unfolding sumFrom
+from-same x zero f g h = refl
+from-same x (suc k) f g h = rw (from-same x k f g (λ t l. h t (omega arith)), h k (omega arith))
+
+-- a sum is one that goes on from -0
+pub sum-from : (k : ℕ) (f : ℕ → Float) → sumFrom minusZero k f ≡ sumOf k f
+unfolding sumFrom sumOf
+sum-from zero f = refl
+sum-from (suc k) f = rw (sum-from k f)
+
+-- and one of t terms goes on to k more
+pub sum-group : (t k : ℕ) (f : ℕ → Float) → sumFrom (sumOf t f) k (λ s. f (t + s)) ≡ sumOf (t + k) f
+sum-group t k f = ap (λ x. sumFrom x k (λ s. f (t + s))) (sym (sum-from t f)) ∙ from-group minusZero f t k ∙ sum-from (t + k) f
+
+-- ---- sums side by side
+
+-- term j of the sum of products of run s with v
+unfoldable pub dotTerm : List Float → ℕ → List Float → ℕ → ℕ → Float
+dotTerm xs stride v s j = xs ‼ (s * stride + j) ⊗ v ‼ j
+
+pub dot-more : (xs : List Float) (stride : ℕ) (v : List Float) (s j p : ℕ) → p ≡ s * stride + j → sumOf j (dotTerm xs stride v s) ⊕ xs ‼ p ⊗ v ‼ j ≡ sumOf (j + 1) (dotTerm xs stride v s)
+unfolding sumOf dotTerm
+dot-more xs stride v s j p e = rw (e, add-one j)
+
+-- four numbers stored into a run of four
+pub four-stored : (f : ℕ → Float) (p : List Float) (a b c d : Float) → length p ≡ 4 → a ≡ f 0 → b ≡ f 1 → c ≡ f 2 → d ≡ f 3 → set (set (set (set p 0 a) 1 b) 2 c) 3 d ≡ table f 4
+unfolding table
+four-stored f p a b c d e k l m n =
+    rw (k, l, m, n)
+    (ap (λ q. set (set (set q 1 (f 1)) 2 (f 2)) 3 (f 3)) (filled-more f p 0 nan (omega arith)) ∙ ap (λ q. set (set q 2 (f 2)) 3 (f 3)) (filled-more f p 1 nan (omega arith))
+    ∙ ap (λ q. set q 3 (f 3)) (filled-more f p 2 nan (omega arith)) ∙ filled-more f p 3 nan (omega arith) ∙ filled-all f p 4 (omega arith) (omega arith) ∙ rw e)
+
+-- ---- eight runs from run t on, as two runs of four
+
+module _ (stride t : ℕ) where
+  fifth-in : (t + 4) * stride ≡ t * stride + 4 * stride
+  fifth-in = add-mul t 4 stride
+
+  pub reach-eight : (k m l : ℕ) → Reach k stride m l → t + 8 ≤ k → ((t + 4) * stride ≡ t * stride + 4 * stride) × (t * stride + (7 * stride + m) ≤ l)
+  reach-eight k m l r h = let z = r (t + 7) (omega arith) in let y = add-mul t 7 stride in (fifth-in, omega arith)
+
+  module _ (m f g : ℕ) (row xs w : List Float) (p : f ≡ t * stride) (q : g ≡ (t + 4) * stride) (z : t * stride + (7 * stride + m) ≤ length xs) (h : t + 8 ≤ length w) (o : length row ≡ m) where
+    -- number j of run s of the first four, of the second four, and number s of w
+    low : (s j : ℕ) → s < 4 → j < m → part f (f + (3 * stride + m)) xs ‼ (s * stride + j) ≡ xs ‼ ((t + s) * stride + j)
+    low s j a b =
+        let c : s ≤ 3 = omega arith in
+        let y = mul-le-mul-right stride c in
+        let e : f + (s * stride + j) ≡ (t + s) * stride + j = let x = add-mul t s stride in omega arith in
+        getD-part xs {a = f} {e = f + (3 * stride + m)} (omega arith) (omega arith) (s * stride + j) nan (omega arith) ∙ ap (λ (i : ℕ). xs ‼ i) e
+
+    high : (s j : ℕ) → s < 4 → j < m → part g (g + (3 * stride + m)) xs ‼ (s * stride + j) ≡ xs ‼ ((t + (4 + s)) * stride + j)
+    high s j a b =
+        let c : s ≤ 3 = omega arith in
+        let y = mul-le-mul-right stride c in
+        let x = fifth-in in
+        let e : g + (s * stride + j) ≡ (t + (4 + s)) * stride + j = let u = add-mul t (4 + s) stride in let v = add-mul 4 s stride in omega arith in
+        getD-part xs {a = g} {e = g + (3 * stride + m)} (omega arith) (omega arith) (s * stride + j) nan (omega arith) ∙ ap (λ (i : ℕ). xs ‼ i) e
+
+    factor : (s : ℕ) → s < 8 → part t (t + 8) w ‼ s ≡ w ‼ (t + s)
+    factor s a = getD-part w {a = t} {e = t + 8} (omega arith) (omega arith) s nan (omega arith)
+
+    pub eight-terms :
+        table (λ j. row ‼ j ⊕ part f (f + (3 * stride + m)) xs ‼ j ⊗ part t (t + 8) w ‼ 0 ⊕ part f (f + (3 * stride + m)) xs ‼ (stride + j) ⊗ part t (t + 8) w ‼ 1 ⊕ part f (f + (3 * stride + m)) xs ‼ (2 * stride + j) ⊗ part t (t + 8) w ‼ 2 ⊕ part f (f + (3 * stride + m)) xs ‼ (3 * stride + j) ⊗ part t (t + 8) w ‼ 3 ⊕ part g (g + (3 * stride + m)) xs ‼ j ⊗ part t (t + 8) w ‼ 4 ⊕ part g (g + (3 * stride + m)) xs ‼ (stride + j) ⊗ part t (t + 8) w ‼ 5 ⊕ part g (g + (3 * stride + m)) xs ‼ (2 * stride + j) ⊗ part t (t + 8) w ‼ 6 ⊕ part g (g + (3 * stride + m)) xs ‼ (3 * stride + j) ⊗ part t (t + 8) w ‼ 7) (length row)
+        ≡ table (λ j. sumFrom (row ‼ j) 8 (λ s. xs ‼ ((t + s) * stride + j) ⊗ w ‼ (t + s))) (length row)
+    unfolding sumFrom
+    eight-terms =
+        table-same _ _ (length row)
+        (λ j l. let d : j < m = omega arith in
+        let zeroth : 0 * stride + j ≡ j = omega arith in
+        let first : 1 * stride + j ≡ stride + j = omega arith in
+        let a0 = low 0 j (omega arith) d in let a1 = low 1 j (omega arith) d in let a2 = low 2 j (omega arith) d in let a3 = low 3 j (omega arith) d in
+        let b0 = high 0 j (omega arith) d in let b1 = high 1 j (omega arith) d in let b2 = high 2 j (omega arith) d in let b3 = high 3 j (omega arith) d in
+        rw (
+          ap (λ (i : ℕ). part f (f + (3 * stride + m)) xs ‼ i) (sym zeroth) ∙ a0,
+          ap (λ (i : ℕ). part f (f + (3 * stride + m)) xs ‼ i) (sym first) ∙ a1,
+          a2,
+          a3,
+          ap (λ (i : ℕ). part g (g + (3 * stride + m)) xs ‼ i) (sym zeroth) ∙ b0,
+          ap (λ (i : ℕ). part g (g + (3 * stride + m)) xs ‼ i) (sym first) ∙ b1,
+          b2,
+          b3,
+          factor 0 (omega arith),
+          factor 1 (omega arith),
+          factor 2 (omega arith),
+          factor 3 (omega arith),
+          factor 4 (omega arith),
+          factor 5 (omega arith),
+          factor 6 (omega arith),
+          factor 7 (omega arith),
+        ))
+
+-- ---- the terms of a row of sums, group by group
+
+module _ (row xs : List Float) (stride : ℕ) (w : List Float) where
+  -- what t terms make of the row
+  unfoldable pub termsTo : ℕ → List Float
+  termsTo t = table (λ j. sumFrom (row ‼ j) t (λ s. xs ‼ (s * stride + j) ⊗ w ‼ s)) (length row)
+
+  pub length-terms : (t : ℕ) → length (termsTo t) ≡ length row
+  unfolding termsTo
+  length-terms t = length-table _ (length row)
+
+  at-terms : (t j : ℕ) → j < length row → termsTo t ‼ j ≡ sumFrom (row ‼ j) t (λ s. xs ‼ (s * stride + j) ⊗ w ‼ s)
+  unfolding termsTo
+  at-terms t j h = getD-table _ (length row) j nan h
+
+  pub terms-none : row ≡ termsTo 0
+  terms-none = ext-getD nan row (termsTo 0) (sym (length-terms 0)) (λ j h. sym (at-terms 0 j h ∙ from-none (row ‼ j) (λ s. xs ‼ (s * stride + j) ⊗ w ‼ s)))
+
+  pub terms-eight : (t : ℕ) → table (λ j. sumFrom (termsTo t ‼ j) 8 (λ s. xs ‼ ((t + s) * stride + j) ⊗ w ‼ (t + s))) (length (termsTo t)) ≡ termsTo (t + 8)
+  unfolding termsTo
+  terms-eight t =
+      ap (table (λ j. sumFrom (termsTo t ‼ j) 8 (λ s. xs ‼ ((t + s) * stride + j) ⊗ w ‼ (t + s)))) (length-terms t)
+      ∙ table-same _ _ (length row)
+      (λ j h. ap (λ x. sumFrom x 8 (λ s. xs ‼ ((t + s) * stride + j) ⊗ w ‼ (t + s))) (at-terms t j h) ∙ from-group (row ‼ j) (λ s. xs ‼ (s * stride + j) ⊗ w ‼ s) t 8)
+
+  pub terms-one : (t start : ℕ) → start ≡ t * stride → t * stride + length row ≤ length xs
+      → table (λ j. termsTo t ‼ j ⊕ part start (start + length (termsTo t)) xs ‼ j ⊗ w ‼ t) (length (termsTo t)) ≡ termsTo (t + 1)
+  unfolding termsTo
+  terms-one t start e z =
+      let o = length-terms t in
+      ap (table (λ j. termsTo t ‼ j ⊕ part start (start + length (termsTo t)) xs ‼ j ⊗ w ‼ t)) o
+      ∙ table-same _ _ (length row)
+      (λ j h. rw (at-terms t j h, getD-part xs {a = start} {e = start + length (termsTo t)} (omega arith) (omega arith) j nan (omega arith), e) (sym (from-more (row ‼ j) (λ s. xs ‼ (s * stride + j) ⊗ w ‼ s) t)))
+
+-- ---- runs of sums, four at a time
+
+table-group : (f : ℕ → Float) (t k : ℕ) → table f (t + k) ≡ table f t ++ table (λ s. f (t + s)) k
+unfolding table
+table-group f t zero = let z : t + 0 ≡ t = omega arith in rw z (sym (append-nil (table f t)))
+table-group f t (suc k) = let z : t + suc k ≡ suc (t + k) = omega arith in rw (z, table-group f t k, append-assoc)
+
+-- the next k numbers of a run that is being filled, stored as a part of it
+pub filled-group : (f : ℕ → Float) (p ys : List Float) (t e k : ℕ) → e ≡ t + k → ys ≡ table (λ s. f (t + s)) k → withPart t e (filled f t p) ys ≡ filled f e p
+filled-group f p ys t e k q y =
+    let z : t + k - t ≡ k = omega arith in
+    rw (q, y, z, take-at (table f t) (drop t p) t (length-table f t), drop-at (table f t) (drop t p) t (length-table f t), table-group f t k, append-assoc, drop-drop)
+
+module _ (xs : List Float) (stride : ℕ) (v : List Float) where
+  -- sum s
+  unfoldable pub dot : ℕ → Float
+  dot s = sumOf (length v) (λ j. xs ‼ (s * stride + j) ⊗ v ‼ j)
+
+  pub reach-four : (k t l : ℕ) → Reach k stride (length v) l → t + 4 ≤ k → t * stride + (3 * stride + length v) ≤ l
+  reach-four k t l r h = let z = r (t + 3) (omega arith) in let y = add-mul t 3 stride in omega arith
+
+  pub four-sums : (t start end : ℕ) → start ≡ t * stride → end ≡ start + (3 * stride + length v) → t * stride + (3 * stride + length v) ≤ length xs
+      → table (λ s. sumOf (length v) (λ j. part start end xs ‼ (s * stride + j) ⊗ v ‼ j)) 4 ≡ table (λ s. dot (t + s)) 4
+  unfolding dot
+  four-sums t start end p q z =
+      table-same _ _ 4
+      (λ s h. sum-same (length v) _ _
+      (λ j l. ap (λ x. x ⊗ v ‼ j)
+      (let a : s ≤ 3 = omega arith in
+      let y = mul-le-mul-right stride a in
+      let e : start + (s * stride + j) ≡ (t + s) * stride + j = let x = add-mul t s stride in omega arith in
+      getD-part xs {a = start} {e = end} (omega arith) (omega arith) (s * stride + j) nan (omega arith) ∙ ap (λ (i : ℕ). xs ‼ i) e)))
+
+  pub one-sum : (t m : ℕ) → m ≡ length v → sumProducts xs (t * stride) v 0 m ≡ dot t
+  unfolding dot
+  one-sum t m e = rw e (sum-same (length v) _ _ (λ j l. rw zero-add))

@@ -1,0 +1,151 @@
+// Runs of numbers, each worked over first to last, and matrices in a run, row after row.
+//
+// The order of each sum is fixed; the order of the work is not. `add_terms` adds the terms of many sums at once, a
+// term of each before the next, so that the compiler can take several numbers at once; `dots` works out a few sums
+// of many terms side by side.
+ghost use mathlib.Core.Path.{_≡_};
+ghost use Prim.Native.Nat.{_+_, _*_, _≤_, _<_};
+ghost use lib.ListN.{length};
+ghost use Rattle.floats.specs.Words.{_⊕_, _⊗_, _‼_};
+ghost use Rattle.floats.specs.Sums.{sumOf};
+ghost use Rattle.floats.specs.Tables.{table};
+ghost use Rattle.rows.specs.Terms.{Reach, sumFrom};
+
+pub mod matrix;
+
+// Every number of `row` becomes x.
+pub fn fill(row: &mut [f64], x: f64)
+    ensures { λ _. ⌜ now (row .exit) ≡ table (λ j. x) (length (now (row .entry))) ⌝ }
+{
+    for j in 0..row.len() {
+        row[j] = x;
+    }
+}
+
+// The numbers of `row` become those of `xs`.
+pub fn copy(row: &mut [f64], xs: &[f64])
+    requires { ⌜ length (now row) ≤ length (now xs) ⌝ }
+    ensures { λ _. ⌜ now (row .exit) ≡ table (λ j. now (xs .entry) ‼ j) (length (now (row .entry))) ⌝ }
+{
+    for j in 0..row.len() {
+        row[j] = xs[j];
+    }
+}
+
+// Adds w times the numbers of `xs` to those of `row`.
+fn add_one(row: &mut [f64], xs: &[f64], w: f64)
+    requires { ⌜ length (now row) ≤ length (now xs) ⌝ }
+    ensures { λ _. ⌜ now (row .exit) ≡ table (λ j. now (row .entry) ‼ j ⊕ now (xs .entry) ‼ j ⊗ w) (length (now (row .entry))) ⌝ }
+{
+    for j in 0..row.len() {
+        row[j] = row[j] + xs[j] * w;
+    }
+}
+
+// Adds eight multiples, one after another: of four runs in `xs` and four in `ys`, each `stride` on from the one
+// before. Each number of `row` is read and written once for the eight. (Two runs of four and not one of eight: the
+// compiler then has no address to work out in the loop.)
+fn add_eight(row: &mut [f64], xs: &[f64], ys: &[f64], stride: usize, w: &[f64])
+    requires { ⌜ (3 * stride + length (now row) ≤ length (now xs)) × (3 * stride + length (now row) ≤ length (now ys)) × (8 ≤ length (now w)) ⌝ }
+    ensures { λ _. ⌜ now (row .exit) ≡ table (λ j. now (row .entry) ‼ j ⊕ now (xs .entry) ‼ j ⊗ now (w .entry) ‼ 0 ⊕ now (xs .entry) ‼ (stride + j) ⊗ now (w .entry) ‼ 1 ⊕ now (xs .entry) ‼ (2 * stride + j) ⊗ now (w .entry) ‼ 2 ⊕ now (xs .entry) ‼ (3 * stride + j) ⊗ now (w .entry) ‼ 3 ⊕ now (ys .entry) ‼ j ⊗ now (w .entry) ‼ 4 ⊕ now (ys .entry) ‼ (stride + j) ⊗ now (w .entry) ‼ 5 ⊕ now (ys .entry) ‼ (2 * stride + j) ⊗ now (w .entry) ‼ 6 ⊕ now (ys .entry) ‼ (3 * stride + j) ⊗ now (w .entry) ‼ 7) (length (now (row .entry))) ⌝ }
+{
+    let second = 2 * stride;
+    let third = 3 * stride;
+    for j in 0..row.len() {
+        row[j] = row[j]
+            + xs[j] * w[0]
+            + xs[stride + j] * w[1]
+            + xs[second + j] * w[2]
+            + xs[third + j] * w[3]
+            + ys[j] * w[4]
+            + ys[stride + j] * w[5]
+            + ys[second + j] * w[6]
+            + ys[third + j] * w[7];
+    }
+}
+
+// Adds the multiples of eight runs in `xs`, from run t on.
+fn add_next_eight(row: &mut [f64], xs: &[f64], stride: usize, w: &[f64], t: usize)
+    requires { ⌜ (Reach (length (now w)) stride (length (now row)) (length (now xs))) × (t + 8 ≤ length (now w)) ⌝ }
+    ensures { λ _. ⌜ now (row .exit) ≡ table (λ j. sumFrom (now (row .entry) ‼ j) 8 (λ s. now (xs .entry) ‼ ((t + s) * stride + j) ⊗ now (w .entry) ‼ (t + s))) (length (now (row .entry))) ⌝ }
+{
+    let width = 3 * stride + row.len();
+    let first = t * stride;
+    let fifth = (t + 4) * stride;
+    let first_end = first + width;
+    let fifth_end = fifth + width;
+    let end = t + 8;
+    add_eight(
+        row,
+        &xs[first..first_end],
+        &xs[fifth..fifth_end],
+        stride,
+        &w[t..end],
+    );
+}
+
+// To number j of `row`: number j of the runs in `xs`, each `stride` on from the one before, each times its number of
+// `w`, first to last.
+pub fn add_terms(row: &mut [f64], xs: &[f64], stride: usize, w: &[f64])
+    requires { ⌜ Reach (length (now w)) stride (length (now row)) (length (now xs)) ⌝ }
+    ensures { λ _. ⌜ now (row .exit) ≡ table (λ j. sumFrom (now (row .entry) ‼ j) (length (now (w .entry))) (λ s. now (xs .entry) ‼ (s * stride + j) ⊗ now (w .entry) ‼ s)) (length (now (row .entry))) ⌝ }
+{
+    let k = w.len();
+    let mut t = 0usize;
+    while t < k {
+        if t + 8 <= k {
+            add_next_eight(row, xs, stride, w, t);
+            t = t + 8;
+        } else {
+            let start = t * stride;
+            let end = start + row.len();
+            add_one(row, &xs[start..end], w[t]);
+            t = t + 1;
+        }
+    }
+}
+
+// The sums of the products of four runs in `xs`, each `stride` on from the one before, with `v`.
+fn four_dots(p: &mut [f64], xs: &[f64], stride: usize, v: &[f64])
+    requires { ⌜ (length (now p) ≡ 4) × (3 * stride + length (now v) ≤ length (now xs)) ⌝ }
+    ensures { λ _. ⌜ now (p .exit) ≡ table (λ s. sumOf (length (now (v .entry))) (λ j. now (xs .entry) ‼ (s * stride + j) ⊗ now (v .entry) ‼ j)) 4 ⌝ }
+{
+    let second = 2 * stride;
+    let third = 3 * stride;
+    let mut a = -0.0f64;
+    let mut b = -0.0f64;
+    let mut c = -0.0f64;
+    let mut d = -0.0f64;
+    for j in 0..v.len() {
+        let x = v[j];
+        a = a + xs[j] * x;
+        b = b + xs[stride + j] * x;
+        c = c + xs[second + j] * x;
+        d = d + xs[third + j] * x;
+    }
+    p[0] = a;
+    p[1] = b;
+    p[2] = c;
+    p[3] = d;
+}
+
+// The sums of the products of the runs in `xs`, each `stride` on from the one before, with `v`: one for each number of `p`.
+pub fn dots(p: &mut [f64], xs: &[f64], stride: usize, v: &[f64])
+    requires { ⌜ Reach (length (now p)) stride (length (now v)) (length (now xs)) ⌝ }
+    ensures { λ _. ⌜ now (p .exit) ≡ table (λ s. sumOf (length (now (v .entry))) (λ j. now (xs .entry) ‼ (s * stride + j) ⊗ now (v .entry) ‼ j)) (length (now (p .entry))) ⌝ }
+{
+    let m = v.len();
+    let mut t = 0usize;
+    while t < p.len() {
+        let start = t * stride;
+        if t + 4 <= p.len() {
+            let end = start + (3 * stride + m);
+            let next = t + 4;
+            four_dots(&mut p[t..next], &xs[start..end], stride, v);
+            t = next;
+        } else {
+            p[t] = floats::sums::sum_products(xs, start, v, 0, m);
+            t = t + 1;
+        }
+    }
+}
