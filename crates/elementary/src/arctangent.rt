@@ -2,6 +2,7 @@
 ghost use mathlib.Core.Path.{_≡_};
 ghost use Prim.Native.Nat.{_<_};
 ghost use Rattle.elementary.specs.Atan.{atanRest, about, turn, atanTurned, atanSize};
+use crate::polynomials::horner;
 
 // (atan t / t - 1) in powers of z = t^2: those of z^11, z^9, .., z, and those of z^10, z^8, .., z^2.
 const ATAN_ODD: [f64; 6] = [
@@ -64,18 +65,7 @@ fn atan_rest(t: f64) -> f64
 {
     let z = t * t;
     let w = z * z;
-    let mut odd = ATAN_ODD[0];
-    odd = odd * w + ATAN_ODD[1];
-    odd = odd * w + ATAN_ODD[2];
-    odd = odd * w + ATAN_ODD[3];
-    odd = odd * w + ATAN_ODD[4];
-    odd = odd * w + ATAN_ODD[5];
-    let mut even = ATAN_EVEN[0];
-    even = even * w + ATAN_EVEN[1];
-    even = even * w + ATAN_EVEN[2];
-    even = even * w + ATAN_EVEN[3];
-    even = even * w + ATAN_EVEN[4];
-    t * (z * odd + w * even)
+    t * (z * horner(&ATAN_ODD, w) + w * horner(&ATAN_EVEN, w))
 }
 
 // a, turned back by the angle of POINTS[i].

@@ -2,6 +2,7 @@
 ghost use mathlib.Core.Path.{_≡_};
 ghost use Rattle.elementary.specs.Exp.{expReduced, scaled};
 use crate::patterns::two_to;
+use crate::polynomials::horner;
 
 // ln 2 in two parts.
 pub const LN_2: [f64; 2] = [
@@ -44,19 +45,7 @@ pub fn exp_reduced(x: f64, k: f64) -> f64
     let r = hi - lo;
     let c = (hi - r) - lo;
     let y = 1.0 + r;
-    let mut p = EXP[0];
-    p = p * r + EXP[1];
-    p = p * r + EXP[2];
-    p = p * r + EXP[3];
-    p = p * r + EXP[4];
-    p = p * r + EXP[5];
-    p = p * r + EXP[6];
-    p = p * r + EXP[7];
-    p = p * r + EXP[8];
-    p = p * r + EXP[9];
-    p = p * r + EXP[10];
-    p = p * r + EXP[11];
-    y + ((r - (y - 1.0)) + (r * r * p + c))
+    y + ((r - (y - 1.0)) + (r * r * horner(&EXP, r) + c))
 }
 
 // y 2^(j - 2046), rounded once: the first product is exact.

@@ -6,6 +6,7 @@ mod arctangent;
 mod exponential;
 mod logarithm;
 mod patterns;
+mod polynomials;
 mod sine;
 mod tails;
 

@@ -5,6 +5,7 @@ use crate::exponential::LN_2;
 use crate::patterns::digits;
 use crate::patterns::field;
 use crate::patterns::raised;
+use crate::polynomials::horner;
 use floats::bits::bits_of;
 
 // ln(1 + f) / s - 2 in powers of z = s^2, s = f / (2 + f): those of z^6, z^4, z^2, and those of z^7,
@@ -40,14 +41,7 @@ pub fn ln_rest(f: f64, g: f64) -> f64
     let z = s * s;
     let w = z * z;
     let h = 0.5 * f * f;
-    let mut even = LN_EVEN[0];
-    even = even * w + LN_EVEN[1];
-    even = even * w + LN_EVEN[2];
-    let mut odd = LN_ODD[0];
-    odd = odd * w + LN_ODD[1];
-    odd = odd * w + LN_ODD[2];
-    odd = odd * w + LN_ODD[3];
-    h - (s * (h + (w * even + z * odd)) + g)
+    h - (s * (h + (w * horner(&LN_EVEN, w) + z * horner(&LN_ODD, w))) + g)
 }
 
 // ln(w) + c of a normal w > 0, `bias` being what its exponent field counts from.

@@ -1,6 +1,7 @@
 // The steps of sin (specs/Sin.antt has the method), and its constants.
 ghost use mathlib.Core.Path.{_≡_};
 ghost use Rattle.elementary.specs.Sin.{sinKernel, cosKernel, quarterTurns, sinReduced};
+use crate::polynomials::horner;
 use floats::bits::bits_of;
 
 // pi/2 in four parts.
@@ -45,15 +46,7 @@ fn sin_kernel(r: f64, c: f64) -> f64
     ensures { λ y. ⌜ y ≡ sinKernel r c ⌝ }
 {
     let z = r * r;
-    let mut p = SIN[0];
-    p = p * z + SIN[1];
-    p = p * z + SIN[2];
-    p = p * z + SIN[3];
-    p = p * z + SIN[4];
-    p = p * z + SIN[5];
-    p = p * z + SIN[6];
-    p = p * z + SIN[7];
-    r - (c * (1.0 - 0.5 * z) - r * z * p)
+    r - (c * (1.0 - 0.5 * z) - r * z * horner(&SIN, z))
 }
 
 // cos(r - c), in the same range.
@@ -61,16 +54,9 @@ fn cos_kernel(r: f64, c: f64) -> f64
     ensures { λ y. ⌜ y ≡ cosKernel r c ⌝ }
 {
     let z = r * r;
-    let mut p = COS[0];
-    p = p * z + COS[1];
-    p = p * z + COS[2];
-    p = p * z + COS[3];
-    p = p * z + COS[4];
-    p = p * z + COS[5];
-    p = p * z + COS[6];
     let h = 0.5 * z;
     let w = 1.0 - h;
-    w + (((1.0 - w) - h) + (z * z * p + r * c))
+    w + (((1.0 - w) - h) + (z * z * horner(&COS, z) + r * c))
 }
 
 // The sine of q quarter turns and r - c.

@@ -2,6 +2,7 @@
 ghost use mathlib.Core.Path.{_≡_};
 ghost use Rattle.elementary.specs.Tails.{millsOf, clamped, halfTail, tailBeyond};
 use crate::exp;
+use crate::polynomials::horner;
 
 // (z + 3/2) e^(z^2/2) times the tail, in powers of u.
 const MILLS: [f64; 24] = [
@@ -36,31 +37,7 @@ fn mills(z: f64) -> f64
     ensures { λ r. ⌜ r ≡ millsOf z ⌝ }
 {
     let u = (z - 5.0) / (z + 5.0);
-    let mut p = MILLS[0];
-    p = p * u + MILLS[1];
-    p = p * u + MILLS[2];
-    p = p * u + MILLS[3];
-    p = p * u + MILLS[4];
-    p = p * u + MILLS[5];
-    p = p * u + MILLS[6];
-    p = p * u + MILLS[7];
-    p = p * u + MILLS[8];
-    p = p * u + MILLS[9];
-    p = p * u + MILLS[10];
-    p = p * u + MILLS[11];
-    p = p * u + MILLS[12];
-    p = p * u + MILLS[13];
-    p = p * u + MILLS[14];
-    p = p * u + MILLS[15];
-    p = p * u + MILLS[16];
-    p = p * u + MILLS[17];
-    p = p * u + MILLS[18];
-    p = p * u + MILLS[19];
-    p = p * u + MILLS[20];
-    p = p * u + MILLS[21];
-    p = p * u + MILLS[22];
-    p = p * u + MILLS[23];
-    p / (z + 1.5)
+    horner(&MILLS, u) / (z + 1.5)
 }
 
 // t held to 0 .. 1/2; 0 where it is no number.

@@ -1,16 +1,9 @@
--- The steps of the code are those of the definition, coefficient by coefficient: its table and its Horner's rule compute to them. Assumes nothing.
-use mathlib.Core.Path.{refl}
 use borrow.Author.Needs.{needs}
 use Rattle.elementary.proofs.exponential.exp_reduced.Statement.{statement}
 use Rattle.elementary.proofs.exponential.exp_reduced.Tie as tie
 
-returns : tie.Need-returns
-returns c = refl
-
 pub exp-reduced-spec : {M : Type 1} → statement M
 exp-reduced-spec =
     tie.close
-    (tie.spec (λ c. search needs) (λ c. search needs) (λ c. search needs) (λ c. search needs)
-    (λ c. search needs) (λ c. search needs) (λ c. search needs) (λ c. search needs) (λ c. search needs)
-    (λ c. search needs) (λ c. search needs) (λ c. search needs) (λ c. search needs) (λ c. search needs)
-    returns)
+    (tie.spec (λ c. search needs) (λ c. search needs) (λ c. search needs) (λ c κs. search needs)
+    (λ c. rw (c .horner .ensures)))

@@ -1,14 +1,8 @@
--- The steps of the code are those of the definition, coefficient by coefficient: its table and its Horner's rule compute to them. Assumes nothing.
-use mathlib.Core.Path.{refl}
 use borrow.Author.Needs.{needs}
 use Rattle.elementary.proofs.sine.sin_kernel.Statement.{statement}
 use Rattle.elementary.proofs.sine.sin_kernel.Tie as tie
 
-returns : tie.Need-returns
-returns c = refl
-
 pub sin-kernel-spec : {M : Type 1} → statement M
 sin-kernel-spec =
     tie.close
-    (tie.spec (λ c. search needs) (λ c. search needs) (λ c. search needs) (λ c. search needs)
-    (λ c. search needs) (λ c. search needs) (λ c. search needs) (λ c. search needs) returns)
+    (tie.spec (λ c. search needs) (λ c κs. search needs) (λ c. rw (c .horner .ensures)))
