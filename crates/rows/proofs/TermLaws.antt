@@ -125,6 +125,40 @@ module _ (stride t : ℕ) where
           factor 7 (omega arith),
         ))
 
+-- ---- four terms, and sixteen of runs that stand 256 apart
+
+pub four-of : (x : Float) (xs w : List Float) (at stride s : ℕ) →
+    x ⊕ xs ‼ at ⊗ w ‼ s ⊕ xs ‼ (at + stride) ⊗ w ‼ (s + 1) ⊕ xs ‼ (at + 2 * stride) ⊗ w ‼ (s + 2) ⊕ xs ‼ (at + 3 * stride) ⊗ w ‼ (s + 3) ≡ sumFrom x 4 (λ t. xs ‼ (at + t * stride) ⊗ w ‼ (s + t))
+unfolding sumFrom
+four-of x xs w at stride s =
+    let a : at + 0 * stride ≡ at = omega arith in
+    let b : at + 1 * stride ≡ at + stride = omega arith in
+    let c : s + 0 ≡ s = omega arith in
+    rw (a, b, c)
+
+module _ (x : Float) (xs w : List Float) (j : ℕ) where
+  abbrev wide : ℕ → Float
+  wide s = xs ‼ (s * 256 + j) ⊗ w ‼ s
+
+  pub sixteen-of : (a b c r : Float) → a ≡ sumFrom x 4 (λ t. xs ‼ (j + t * 256) ⊗ w ‼ (0 + t)) → b ≡ sumFrom a 4 (λ t. xs ‼ (1024 + j + t * 256) ⊗ w ‼ (4 + t))
+      → c ≡ sumFrom b 4 (λ t. xs ‼ (2048 + j + t * 256) ⊗ w ‼ (8 + t)) → r ≡ sumFrom c 4 (λ t. xs ‼ (3072 + j + t * 256) ⊗ w ‼ (12 + t)) → r ≡ sumFrom x 16 wide
+  sixteen-of a b c r p q m n =
+      let four = p ∙ from-same x 4 _ wide (λ t h. let e : j + t * 256 ≡ t * 256 + j = omega arith in rw (e, zero-add)) in
+      let eight = q ∙ rw four (from-same _ 4 _ _ (λ t h. let e : 1024 + j + t * 256 ≡ (4 + t) * 256 + j = omega arith in rw e)) ∙ from-group x wide 4 4 in
+      let twelve = m ∙ rw eight (from-same _ 4 _ _ (λ t h. let e : 2048 + j + t * 256 ≡ (8 + t) * 256 + j = omega arith in rw e)) ∙ from-group x wide 8 4 in
+      n ∙ rw twelve (from-same _ 4 _ _ (λ t h. let e : 3072 + j + t * 256 ≡ (12 + t) * 256 + j = omega arith in rw e)) ∙ from-group x wide 12 4
+
+module _ (t m : ℕ) (row xs w : List Float) (start : ℕ) (p : start ≡ t * 256) (z : (t + 15) * 256 + m ≤ length xs) (h : t + 16 ≤ length w) (o : length row ≡ m) where
+  -- sixteen runs from run t on
+  pub sixteen-terms :
+      table (λ j. sumFrom (row ‼ j) 16 (λ s. part start (start + (3840 + m)) xs ‼ (s * 256 + j) ⊗ part t (t + 16) w ‼ s)) (length row)
+      ≡ table (λ j. sumFrom (row ‼ j) 16 (λ s. xs ‼ ((t + s) * 256 + j) ⊗ w ‼ (t + s))) (length row)
+  sixteen-terms =
+      table-same _ _ (length row)
+      (λ j l. from-same (row ‼ j) 16 _ _
+      (λ s b. let e : start + (s * 256 + j) ≡ (t + s) * 256 + j = omega arith in
+      rw (getD-part xs {a = start} {e = start + (3840 + m)} (omega arith) (omega arith) (s * 256 + j) nan (omega arith), e, getD-part w {a = t} {e = t + 16} (omega arith) (omega arith) s nan (omega arith))))
+
 -- ---- the terms of a row of sums, group by group
 
 module _ (row xs : List Float) (stride : ℕ) (w : List Float) where
@@ -143,12 +177,12 @@ module _ (row xs : List Float) (stride : ℕ) (w : List Float) where
   pub terms-none : row ≡ termsTo 0
   terms-none = ext-getD nan row (termsTo 0) (sym (length-terms 0)) (λ j h. sym (at-terms 0 j h ∙ from-none (row ‼ j) (λ s. xs ‼ (s * stride + j) ⊗ w ‼ s)))
 
-  pub terms-eight : (t : ℕ) → table (λ j. sumFrom (termsTo t ‼ j) 8 (λ s. xs ‼ ((t + s) * stride + j) ⊗ w ‼ (t + s))) (length (termsTo t)) ≡ termsTo (t + 8)
+  pub terms-group : (t k : ℕ) → table (λ j. sumFrom (termsTo t ‼ j) k (λ s. xs ‼ ((t + s) * stride + j) ⊗ w ‼ (t + s))) (length (termsTo t)) ≡ termsTo (t + k)
   unfolding termsTo
-  terms-eight t =
-      ap (table (λ j. sumFrom (termsTo t ‼ j) 8 (λ s. xs ‼ ((t + s) * stride + j) ⊗ w ‼ (t + s)))) (length-terms t)
+  terms-group t k =
+      ap (table (λ j. sumFrom (termsTo t ‼ j) k (λ s. xs ‼ ((t + s) * stride + j) ⊗ w ‼ (t + s)))) (length-terms t)
       ∙ table-same _ _ (length row)
-      (λ j h. ap (λ x. sumFrom x 8 (λ s. xs ‼ ((t + s) * stride + j) ⊗ w ‼ (t + s))) (at-terms t j h) ∙ from-group (row ‼ j) (λ s. xs ‼ (s * stride + j) ⊗ w ‼ s) t 8)
+      (λ j h. ap (λ x. sumFrom x k (λ s. xs ‼ ((t + s) * stride + j) ⊗ w ‼ (t + s))) (at-terms t j h) ∙ from-group (row ‼ j) (λ s. xs ‼ (s * stride + j) ⊗ w ‼ s) t k)
 
   pub terms-one : (t start : ℕ) → start ≡ t * stride → t * stride + length row ≤ length xs
       → table (λ j. termsTo t ‼ j ⊕ part start (start + length (termsTo t)) xs ‼ j ⊗ w ‼ t) (length (termsTo t)) ≡ termsTo (t + 1)

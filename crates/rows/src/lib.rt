@@ -43,8 +43,8 @@ fn add_one(row: &mut [f64], xs: &[f64], w: f64)
 }
 
 // Adds eight multiples, one after another: of four runs in `xs` and four in `ys`, each `stride` on from the one
-// before. Each number of `row` is read and written once for the eight. (Two runs of four and not one of eight: the
-// compiler then has no address to work out in the loop.)
+// before. Each number of `row` is read and written once for the eight. They are read in an order in which the compiler
+// finds no address to work out in the loop.
 fn add_eight(row: &mut [f64], xs: &[f64], ys: &[f64], stride: usize, w: &[f64])
     requires { ⌜ (3 * stride + length (now row) ≤ length (now xs)) × (3 * stride + length (now row) ≤ length (now ys)) × (8 ≤ length (now w)) ⌝ }
     ensures { λ _. ⌜ now (row .exit) ≡ table (λ j. now (row .entry) ‼ j ⊕ now (xs .entry) ‼ j ⊗ now (w .entry) ‼ 0 ⊕ now (xs .entry) ‼ (stride + j) ⊗ now (w .entry) ‼ 1 ⊕ now (xs .entry) ‼ (2 * stride + j) ⊗ now (w .entry) ‼ 2 ⊕ now (xs .entry) ‼ (3 * stride + j) ⊗ now (w .entry) ‼ 3 ⊕ now (ys .entry) ‼ j ⊗ now (w .entry) ‼ 4 ⊕ now (ys .entry) ‼ (stride + j) ⊗ now (w .entry) ‼ 5 ⊕ now (ys .entry) ‼ (2 * stride + j) ⊗ now (w .entry) ‼ 6 ⊕ now (ys .entry) ‼ (3 * stride + j) ⊗ now (w .entry) ‼ 7) (length (now (row .entry))) ⌝ }
@@ -52,15 +52,23 @@ fn add_eight(row: &mut [f64], xs: &[f64], ys: &[f64], stride: usize, w: &[f64])
     let second = 2 * stride;
     let third = 3 * stride;
     for j in 0..row.len() {
+        let a = xs[j];
+        let e = ys[j];
+        let c = xs[second + j];
+        let g = ys[second + j];
+        let b = xs[stride + j];
+        let f = ys[stride + j];
+        let d = xs[third + j];
+        let h = ys[third + j];
         row[j] = row[j]
-            + xs[j] * w[0]
-            + xs[stride + j] * w[1]
-            + xs[second + j] * w[2]
-            + xs[third + j] * w[3]
-            + ys[j] * w[4]
-            + ys[stride + j] * w[5]
-            + ys[second + j] * w[6]
-            + ys[third + j] * w[7];
+            + a * w[0]
+            + b * w[1]
+            + c * w[2]
+            + d * w[3]
+            + e * w[4]
+            + f * w[5]
+            + g * w[6]
+            + h * w[7];
     }
 }
 
@@ -84,6 +92,43 @@ fn add_next_eight(row: &mut [f64], xs: &[f64], stride: usize, w: &[f64], t: usiz
     );
 }
 
+// x plus four terms: number `at` of `xs` times number s of `w`, and so on, `stride` on in the one and 1 in the other.
+fn four_terms(x: f64, xs: &[f64], at: usize, stride: usize, w: &[f64], s: usize) -> f64
+    requires { ⌜ (at + 3 * stride < length (now xs)) × (s + 4 ≤ length (now w)) ⌝ }
+    ensures { λ r. ⌜ r ≡ sumFrom x 4 (λ t. now (xs .entry) ‼ (at + t * stride) ⊗ now (w .entry) ‼ (s + t)) ⌝ }
+{
+    x
+        + xs[at] * w[s]
+        + xs[at + stride] * w[s + 1]
+        + xs[at + 2 * stride] * w[s + 2]
+        + xs[at + 3 * stride] * w[s + 3]
+}
+
+// Adds sixteen multiples, one after another, of runs that stand 256 apart. With the stride a constant the compiler has
+// no address to work out.
+fn add_sixteen(row: &mut [f64], xs: &[f64], w: &[f64])
+    requires { ⌜ (3840 + length (now row) ≤ length (now xs)) × (16 ≤ length (now w)) ⌝ }
+    ensures { λ _. ⌜ now (row .exit) ≡ table (λ j. sumFrom (now (row .entry) ‼ j) 16 (λ s. now (xs .entry) ‼ (s * 256 + j) ⊗ now (w .entry) ‼ s)) (length (now (row .entry))) ⌝ }
+{
+    for j in 0..row.len() {
+        let a = four_terms(row[j], xs, j, 256, w, 0);
+        let b = four_terms(a, xs, 1024 + j, 256, w, 4);
+        let c = four_terms(b, xs, 2048 + j, 256, w, 8);
+        row[j] = four_terms(c, xs, 3072 + j, 256, w, 12);
+    }
+}
+
+// Adds the multiples of sixteen runs in `xs`, from run t on.
+fn add_next_sixteen(row: &mut [f64], xs: &[f64], w: &[f64], t: usize)
+    requires { ⌜ (Reach (length (now w)) 256 (length (now row)) (length (now xs))) × (t + 16 ≤ length (now w)) ⌝ }
+    ensures { λ _. ⌜ now (row .exit) ≡ table (λ j. sumFrom (now (row .entry) ‼ j) 16 (λ s. now (xs .entry) ‼ ((t + s) * 256 + j) ⊗ now (w .entry) ‼ (t + s))) (length (now (row .entry))) ⌝ }
+{
+    let start = t * 256;
+    let end = start + (3840 + row.len());
+    let next = t + 16;
+    add_sixteen(row, &xs[start..end], &w[t..next]);
+}
+
 // To number j of `row`: number j of the runs in `xs`, each `stride` on from the one before, each times its number of
 // `w`, first to last.
 pub fn add_terms(row: &mut [f64], xs: &[f64], stride: usize, w: &[f64])
@@ -93,7 +138,10 @@ pub fn add_terms(row: &mut [f64], xs: &[f64], stride: usize, w: &[f64])
     let k = w.len();
     let mut t = 0usize;
     while t < k {
-        if t + 8 <= k {
+        if stride == 256 && t + 16 <= k {
+            add_next_sixteen(row, xs, w, t);
+            t = t + 16;
+        } else if t + 8 <= k {
             add_next_eight(row, xs, stride, w, t);
             t = t + 8;
         } else {
