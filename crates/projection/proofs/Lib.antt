@@ -1,4 +1,4 @@
-pub mod LayerLaws
-pub mod MirrorLaws
+pub mod IdentityLaws
+pub mod TriangleLaws
 pub mod ProjectionLaws
 pub mod RoomLaws

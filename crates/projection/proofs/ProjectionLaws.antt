@@ -1,67 +1,82 @@
--- From layers and rows to the definitions: what the loops of this crate leave is X (X'X)^-1 X', M, A M and M A M, entry by entry; and M and M A M are symmetric to the bit.
+-- From rows and sums to the definitions: what the loops of this crate leave is X (X'X)^-1 X', M, A M and M A M, entry by entry; and M and M A M are symmetric to the bit.
 -- Assumes nothing.
-use Prim.Native.Nat.{ℕ, _+_, _*_, _-_, _/_, _%_, _≤_, _<_, min, max}
-use native.Mathlib.Nat.{max-eq-left, max-eq-right, min-eq-left, min-eq-right, max-comm, min-comm}
-use native.Mathlib.Numerals.{add-one}
+use Prim.Native.Nat.{ℕ, _+_, _*_, _-_, _≤_, _<_, min, max}
+use native.Mathlib.Nat.{not-suc-le-zero}
 use native.Mathlib.Omega.{arith}
 use mathlib.Core.Path.{_≡_, refl, ap, sym, _∙_}
 use mathlib.Core.Logic.{⊎-elim}
-use mathlib.Core.Bool.{Bool, true, false, cond}
-use mathlib.Core.List.{List, _++_}
+use mathlib.Core.Bool.{cond, _&&_}
+use mathlib.Core.List.{List}
 use lib.Dec.{leb, ltb, eqb}
 use lib.ListN.{length}
 use lib.Ieee.{Float, nan, neg, sub}
 use lib.Arith.{digits-lt}
 use borrow.Author.Tests.{le-leb, lt-ltb, le-ltb}
-use Rattle.floats.specs.Words.{_⊕_, _⊖_, _⊗_, _‼_, minusZero, plusZero, one}
+use Rattle.floats.specs.Words.{_⊕_, _⊖_, _⊗_, _‼_, minusZero, plusZero}
 use Rattle.floats.specs.Sums.{sumOf}
-use Rattle.floats.specs.Tables.{table, square, symmetric, part}
+use Rattle.floats.specs.Tables.{table, square, symmetric, part, withPart}
+use Rattle.floats.specs.Matrix.{entry, Symmetric}
+use Rattle.floats.proofs.Commutes.{product-swap}
 use Rattle.floats.proofs.ListLaws.{row-in, getD-part, sum-same}
 use Rattle.floats.proofs.TableLaws.{length-table, getD-table}
+use Rattle.floats.proofs.MatrixLaws.{lt-or-le, table-same, square-same, symmetric-same, entry-square, entry-symmetric, is-symmetric, length-square, rowsTo, rows-none, rows-all, part-before, part-inside}
+use Rattle.rows.specs.Terms.{Reach, sumFrom}
+use Rattle.rows.proofs.TermLaws.{from-same, sum-from}
+use Rattle.design.specs.Law.{columnAt}
 use Rattle.design.specs.Difference.{differenceAt}
-use Rattle.floats.specs.Matrix.{entry, Symmetric}
-use Rattle.projection.specs.Layer.{layered}
 use Rattle.projection.specs.Projection.{weight, hat, residual, maker, product, residualMaker, mamOf}
-use Rattle.floats.proofs.MatrixLaws.{lt-or-le, table-same, symmetric-same, entry-square, entry-symmetric, is-symmetric}
-use Rattle.projection.proofs.LayerLaws.{sums, sums-none, sums-more, length-sums}
-use Rattle.projection.proofs.MirrorLaws.{identified}
+use Rattle.projection.proofs.IdentityLaws.{identified}
+use Rattle.projection.proofs.TriangleLaws.{lower, lower-row, sums, length-sums, sums-none, sums-more, sums-all}
+
+-- runs of n, one after another, of which a row up to the diagonal is a part
+pub reach-rows : (n i k l : ℕ) → i < n → k * n ≤ l → Reach k n (i + 1) l
+reach-rows n i k l h b s c = let z = row-in n c in omega arith
 
 module _ (x : List Float) (inv : List (List Float)) (n k : ℕ) where
-  -- ---- X (X'X)^-1 X', of the first c columns
+  -- ---- X (X'X)^-1 X', of the first i rows
+  abbrev hatted : ℕ → ℕ → Float → Float
+  hatted i j y = sumFrom y k (λ c. weight x inv n k i c ⊗ columnAt x n c j)
+
   unfoldable pub hatTo : ℕ → List Float
-  hatTo c = sums n (λ c i. weight x inv n k i c) (λ c j. x ‼ (c * n + j)) c
+  hatTo i = rowsTo n (lower n (λ r c. minusZero) hatted) (λ r c. minusZero) i
 
-  pub hat-more : (c : ℕ) (m us : List Float) → length x ≡ k * n → c < k → m ≡ hatTo c → us ≡ table (λ t. weight x inv n k t c) n
-      → square (layered n m us (part (c * n) (c * n + n) x)) n ≡ hatTo (c + 1)
+  pub hat-none : table (λ p. minusZero) (n * n) ≡ hatTo 0
   unfolding hatTo
-  hat-more c m us e h p q =
-      rw p
-      (sums-more n c (λ c i. weight x inv n k i c) (λ c j. x ‼ (c * n + j)) us (part (c * n) (c * n + n) x)
-      (λ i l. rw q (getD-table (λ t. weight x inv n k t c) n i nan l))
-      (λ j l. getD-part x {a = c * n} {e = c * n + n} (omega arith) (omega (arith, row-in n h)) j nan (omega arith)))
+  hat-none = rows-none n (lower n (λ r c. minusZero) hatted) (λ r c. minusZero)
 
-  hat-entry : (i j : ℕ) → i < n → j < n → j ≤ i → entry n (hatTo k) i j ≡ hat x inv n k i j
-  unfolding hat hatTo sums
-  hat-entry i j h m l = entry-square n (λ i j. cond (leb j i) (hat x inv n k i j) minusZero) i j h m ∙ rw (le-leb j i l)
-
-  hat-length : length (hatTo k) ≡ n * n
+  pub hat-row : (i : ℕ) (m us : List Float) → i < n → m ≡ hatTo i → us ≡ table (λ c. weight x inv n k i c) k
+      → square (λ r c. cond (eqb r i && leb c i) (sumFrom (entry n m r c) (length us) (λ s. x ‼ (s * n + c) ⊗ us ‼ s)) (entry n m r c)) n ≡ hatTo (i + 1)
   unfolding hatTo
-  hat-length = length-sums n (λ c i. weight x inv n k i c) (λ c j. x ‼ (c * n + j)) k
+  hat-row i m us h p q =
+      lower-row n (λ r c. minusZero) hatted i m (λ j y. sumFrom y (length us) (λ s. x ‼ (s * n + j) ⊗ us ‼ s)) h p
+      (λ j y l. ap (λ z. sumFrom y z (λ s. x ‼ (s * n + j) ⊗ us ‼ s)) (ap length q ∙ length-table (weight x inv n k i) k)
+      ∙ from-same y k (λ s. x ‼ (s * n + j) ⊗ us ‼ s) (λ c. weight x inv n k i c ⊗ columnAt x n c j)
+      (λ s b. product-swap (x ‼ (s * n + j)) (us ‼ s) ∙ ap (λ z. z ⊗ x ‼ (s * n + j)) (ap (λ b. b ‼ s) q ∙ getD-table (weight x inv n k i) k s nan b)))
+
+  pub hat-all : hatTo n ≡ square (λ i j. cond (leb j i) (hat x inv n k i j) minusZero) n
+  unfolding hatTo lower hat
+  hat-all =
+      rows-all n (lower n (λ r c. minusZero) hatted) (λ r c. minusZero)
+      ∙ square-same n (lower n (λ r c. minusZero) hatted) (λ i j. cond (leb j i) (hat x inv n k i j) minusZero)
+      (λ i j h l. rw (sum-from k (λ c. weight x inv n k i c ⊗ columnAt x n c j)))
 
   -- ---- M
   -- 1 less a number is 1 plus its opposite
-  pub residual-of : (h a b : List Float) → h ≡ hatTo k → a ≡ table (λ p. neg (h ‼ p)) (length h) → b ≡ square (identified n (entry n a)) n → symmetric (entry n b) n ≡ residualMaker x inv n k
+  pub residual-of : (h a b : List Float) → h ≡ square (λ i j. cond (leb j i) (hat x inv n k i j) minusZero) n → a ≡ table (λ p. neg (h ‼ p)) (length h)
+      → b ≡ square (identified n (entry n a)) n → symmetric (entry n b) n ≡ residualMaker x inv n k
   unfolding residual identified sub
   residual-of h a b p q r =
       symmetric-same n (entry n b) (residual x inv n k)
       (λ i j l m. let o : j < n = omega arith in rw r (entry-square n (identified n (entry n a)) i j l o ∙ rw (negated i j l o m)))
     where
       size : length h ≡ n * n
-      size = ap length p ∙ hat-length
+      size = ap length p ∙ length-square n (λ i j. cond (leb j i) (hat x inv n k i j) minusZero)
+
+      below : (i j : ℕ) → i < n → j < n → j ≤ i → entry n h i j ≡ hat x inv n k i j
+      below i j l o m = rw p (entry-square n (λ i j. cond (leb j i) (hat x inv n k i j) minusZero) i j l o ∙ rw (le-leb j i m))
 
       negated : (i j : ℕ) → i < n → j < n → j ≤ i → entry n a i j ≡ neg (hat x inv n k i j)
-      negated i j l o m =
-          rw (q, size, p) (getD-table (λ p. neg (hatTo k ‼ p)) (n * n) (i * n + j) nan (digits-lt {q = i} {m = n} {r = j} {c = n} l o) ∙ ap neg (hat-entry i j l o m))
+      negated i j l o m = rw (q, size) (getD-table (λ p. neg (h ‼ p)) (n * n) (i * n + j) nan (digits-lt {q = i} {m = n} {r = j} {c = n} l o) ∙ ap neg (below i j l o m))
 
 -- ---- A M: row t is made of rows t - 1, t and t + 1 of M
 pub row-at : (n s start : ℕ) (m : List Float) → s < n → length m ≡ n * n → start ≡ s * n + 0 → (j : ℕ) → j < n → part start (start + n) m ‼ j ≡ entry n m s j
@@ -100,44 +115,50 @@ module _ (n t : ℕ) (m : List Float) where
       table-same (λ j. w ‼ j ⊕ (entry n m t j ⊖ entry n m (t + 1) j)) (λ j. differenceAt (λ s. entry n m s j) n t) n
       (λ j l. rw (lt-ltb (t + 1) n h, e, getD-table behind n j nan l))
 
+-- rows t to t + k - 1 of A M, one after another: what the first s of them are
+module _ (n t : ℕ) (m : List Float) where
+  abbrev pub Loaded : ℕ → List Float → Type 0
+  Loaded k w = (s j : ℕ) → s < k → j < n → w ‼ (s * n + j) ≡ differenceAt (λ r. entry n m r j) n (t + s)
+
+  pub loaded-none : (w : List Float) → Loaded 0 w
+  loaded-none w s j h l = absurd (not-suc-le-zero h)
+
+  pub loaded-more : (s : ℕ) (w ys : List Float) → s * n + n ≤ length w → Loaded s w → ys ≡ table (λ j. differenceAt (λ r. entry n m r j) n (t + s)) n
+      → Loaded (s + 1) (withPart (s * n) (s * n + n) w ys)
+  loaded-more s w ys b old e r j h l =
+      ⊎-elim (λ (d : r < s). part-before w ys {a = s * n} {e = s * n + n} (omega arith) b size (r * n + j) (omega (arith, row-in n d)) ∙ old r j d l)
+      (λ (d : s ≤ r). let z : r ≡ s = omega arith in
+      rw z (part-inside w ys {a = s * n} {e = s * n + n} (omega arith) b size j (omega arith) ∙ rw e (getD-table (λ j. differenceAt (λ r. entry n m r j) n (t + s)) n j nan l)))
+      (lt-or-le r s)
+    where
+      size : length ys ≡ s * n + n - s * n
+      size = ap length e ∙ length-table (λ j. differenceAt (λ r. entry n m r j) n (t + s)) n ∙ omega arith
+
 -- ---- M A M, of the first t terms
 module _ (n : ℕ) (m : List Float) where
+  abbrev pub term : ℕ → ℕ → ℕ → Float
+  term i j t = entry n m i t ⊗ differenceAt (λ s. entry n m s j) n t
+
   unfoldable pub productTo : ℕ → List Float
-  productTo t = sums n (λ t i. entry n m i t) (λ t j. differenceAt (λ s. entry n m s j) n t) t
+  productTo t = sums n term t
 
   pub length-product : (t : ℕ) → length (productTo t) ≡ n * n
   unfolding productTo
-  length-product t = length-sums n (λ t i. entry n m i t) (λ t j. differenceAt (λ s. entry n m s j) n t) t
+  length-product t = length-sums n term t
 
   pub product-none : table (λ p. minusZero) (n * n) ≡ productTo 0
   unfolding productTo
-  product-none = sums-none n (λ t i. entry n m i t) (λ t j. differenceAt (λ s. entry n m s j) n t)
+  product-none = sums-none n term
 
-  pub product-more : (t : ℕ) (b us ws : List Float) → b ≡ productTo t → us ≡ table (λ i. entry n m i t) n → ws ≡ table (λ j. differenceAt (λ s. entry n m s j) n t) n
-      → square (layered n b us ws) n ≡ productTo (t + 1)
+  -- k terms more
+  pub product-more : (t k : ℕ)
+      → square (λ i j. cond (leb j i) (sumFrom (entry n (productTo t) i j) k (λ s. term i j (t + s))) (entry n (productTo t) i j)) n ≡ productTo (t + k)
   unfolding productTo
-  product-more t b us ws p q r =
-      rw p
-      (sums-more n t (λ t i. entry n m i t) (λ t j. differenceAt (λ s. entry n m s j) n t) us ws
-      (λ i l. rw q (getD-table (λ i. entry n m i t) n i nan l))
-      (λ j l. rw r (getD-table (λ j. differenceAt (λ s. entry n m s j) n t) n j nan l)))
+  product-more t k = sums-more n term t k
 
-  -- four terms more
-  pub product-four : (t : ℕ) (b : List Float) → b ≡ productTo t → square (layered n (square (layered n (square (layered n (square (layered n b (table (λ i. entry n m i t) n) (table (λ j. differenceAt (λ s. entry n m s j) n t) n)) n) (table (λ i. entry n m i (t + 1)) n) (table (λ j. differenceAt (λ s. entry n m s j) n (t + 1)) n)) n) (table (λ i. entry n m i (t + 2)) n) (table (λ j. differenceAt (λ s. entry n m s j) n (t + 2)) n)) n) (table (λ i. entry n m i (t + 3)) n) (table (λ j. differenceAt (λ s. entry n m s j) n (t + 3)) n)) n ≡ productTo (t + 4)
-  product-four t b e =
-      let second : t + 1 + 1 ≡ t + 2 = omega arith in
-      let third : t + 2 + 1 ≡ t + 3 = omega arith in
-      let fourth : t + 3 + 1 ≡ t + 4 = omega arith in
-      product-more (t + 3) _ _ _
-      (product-more (t + 2) _ _ _
-      (product-more (t + 1) _ _ _ (product-more t b _ _ e refl refl) refl refl ∙ ap productTo second) refl refl ∙ ap productTo third) refl refl
-      ∙ ap productTo fourth
-
-  pub product-all : symmetric (entry n (productTo n)) n ≡ symmetric (λ i j. sumOf n (λ t. entry n m i t ⊗ differenceAt (λ s. entry n m s j) n t)) n
-  unfolding productTo sums
-  product-all =
-      symmetric-same n (entry n (productTo n)) (λ i j. sumOf n (λ t. entry n m i t ⊗ differenceAt (λ s. entry n m s j) n t))
-      (λ i j h l. entry-square n (λ i j. cond (leb j i) (sumOf n (λ t. entry n m i t ⊗ differenceAt (λ s. entry n m s j) n t)) minusZero) i j h (omega arith) ∙ rw (le-leb j i l))
+  pub product-all : symmetric (entry n (productTo n)) n ≡ symmetric (λ i j. sumOf n (term i j)) n
+  unfolding productTo
+  product-all = sums-all n term n
 
 -- ---- M A M, from the numbers that M's run holds
 

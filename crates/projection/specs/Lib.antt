@@ -1,2 +1,1 @@
-pub mod Layer
 pub mod Projection

@@ -1,66 +1,31 @@
 // Matrices of n rows and n columns in a lent run, row after row.
 ghost use mathlib.Core.Path.{_≡_};
 ghost use mathlib.Core.Bool.{cond, _&&_};
-ghost use Prim.Native.Nat.{_+_, _*_, _^_, _≤_, _<_};
-ghost use lib.Dec.{leb, ltb, eqb};
+ghost use Prim.Native.Nat.{_+_, _*_, _≤_, _<_};
+ghost use lib.Dec.{leb, eqb};
 ghost use lib.ListN.{length};
-ghost use Rattle.floats.specs.Words.{_⊕_, _⊗_, _‼_, one};
-ghost use Rattle.floats.specs.Tables.{table, square, symmetric};
+ghost use lib.Ieee.{neg};
+ghost use Rattle.floats.specs.Words.{_⊕_, _⊖_, _⊗_, _‼_, one};
+ghost use Rattle.floats.specs.Tables.{table, square};
 ghost use Rattle.floats.specs.Matrix.{entry};
-ghost use Rattle.projection.specs.Layer.{layered};
+ghost use Rattle.rows.specs.Terms.{Reach, sumFrom};
 
-// Where entry (i, j) stands.
-pub fn place(n: usize, i: usize, j: usize) -> usize
-    requires { ⌜ (i < n) × (j < n) × (n * n < 2 ^ 64) ⌝ }
-    ensures { λ r. ⌜ (r ≡ i * n + j) × (r + n ≤ n * n + j) ⌝ }
+// Adds to row i, up to the diagonal, the runs in `xs`, each n on from the one before, each times its number of `w`.
+pub fn add_to_row(a: &mut [f64], n: usize, i: usize, xs: &[f64], w: &[f64])
+    requires { ⌜ (length (now a) ≡ n * n) × (i < n) × (Reach (length (now w)) n (i + 1) (length (now xs))) ⌝ }
+    ensures { λ _. ⌜ now (a .exit) ≡ square (λ r c. cond (eqb r i && leb c i) (sumFrom (entry n (now (a .entry)) r c) (length (now (w .entry))) (λ s. now (xs .entry) ‼ (s * n + c) ⊗ now (w .entry) ‼ s)) (entry n (now (a .entry)) r c)) n ⌝ }
 {
-    i * n + j
+    let start = rows::matrix::place(n, i, 0);
+    let end = start + (i + 1);
+    rows::add_terms(&mut a[start..end], xs, n, w);
 }
 
-// Column j.
-pub fn copy_column(u: &mut [f64], a: &[f64], n: usize, j: usize)
-    requires { ⌜ (length (now u) ≡ n) × (length (now a) ≡ n * n) × (j < n) ⌝ }
-    ensures { λ _. ⌜ now (u .exit) ≡ table (λ i. entry n (now (a .entry)) i j) n ⌝ }
+// Every number with the other sign.
+pub fn negate(a: &mut [f64])
+    ensures { λ _. ⌜ now (a .exit) ≡ table (λ p. neg (now (a .entry) ‼ p)) (length (now (a .entry))) ⌝ }
 {
-    for i in 0..n {
-        let p = place(n, i, j);
-        u[i] = a[p];
-    }
-}
-
-// Adds u[i] w[j] to entry (i, j), for each j up to i.
-pub fn add_layer(a: &mut [f64], n: usize, u: &[f64], w: &[f64])
-    requires { ⌜ (length (now a) ≡ n * n) × (n ≤ length (now u)) × (n ≤ length (now w)) ⌝ }
-    ensures { λ _. ⌜ now (a .exit) ≡ square (layered n (now (a .entry)) (now (u .entry)) (now (w .entry))) n ⌝ }
-{
-    for i in 0..n {
-        let x = u[i];
-        let start = place(n, i, 0);
-        let end = start + (i + 1);
-        super::rows::add_multiple(&mut a[start..end], x, w);
-    }
-}
-
-// Four layers, one after another.
-pub fn add_four_layers(
-    a: &mut [f64],
-    n: usize,
-    t: &[f64],
-    w: &[f64],
-    u: &[f64],
-    x: &[f64],
-    v: &[f64],
-    y: &[f64],
-    q: &[f64],
-    z: &[f64],
-)
-    requires { ⌜ (length (now a) ≡ n * n) × (n ≤ length (now t)) × (n ≤ length (now w)) × (n ≤ length (now u)) × (n ≤ length (now x)) × (n ≤ length (now v)) × (n ≤ length (now y)) × (n ≤ length (now q)) × (n ≤ length (now z)) ⌝ }
-    ensures { λ _. ⌜ now (a .exit) ≡ square (layered n (square (layered n (square (layered n (square (layered n (now (a .entry)) (now (t .entry)) (now (w .entry))) n) (now (u .entry)) (now (x .entry))) n) (now (v .entry)) (now (y .entry))) n) (now (q .entry)) (now (z .entry))) n ⌝ }
-{
-    for i in 0..n {
-        let start = place(n, i, 0);
-        let end = start + (i + 1);
-        super::rows::add_four(&mut a[start..end], t[i], w, u[i], x, v[i], y, q[i], z);
+    for p in 0..a.len() {
+        a[p] = -a[p];
     }
 }
 
@@ -70,29 +35,29 @@ pub fn add_identity(a: &mut [f64], n: usize)
     ensures { λ _. ⌜ now (a .exit) ≡ square (λ i j. cond (eqb i j) (one ⊕ entry n (now (a .entry)) i j) (entry n (now (a .entry)) i j)) n ⌝ }
 {
     for i in 0..n {
-        let p = place(n, i, i);
+        let p = rows::matrix::place(n, i, i);
         a[p] = 1.0 + a[p];
     }
 }
 
-// Entry (j, i) becomes entry (i, j), for each j below i.
-fn mirror_row(a: &mut [f64], n: usize, i: usize)
-    requires { ⌜ (length (now a) ≡ n * n) × (i < n) ⌝ }
-    ensures { λ _. ⌜ now (a .exit) ≡ square (λ r c. cond (eqb c i && ltb r i) (entry n (now (a .entry)) i r) (entry n (now (a .entry)) r c)) n ⌝ }
+// Adds the differences of `xs` and `ys` to the numbers of `row`.
+fn add_difference(row: &mut [f64], xs: &[f64], ys: &[f64])
+    requires { ⌜ (length (now row) ≤ length (now xs)) × (length (now row) ≤ length (now ys)) ⌝ }
+    ensures { λ _. ⌜ now (row .exit) ≡ table (λ j. now (row .entry) ‼ j ⊕ (now (xs .entry) ‼ j ⊖ now (ys .entry) ‼ j)) (length (now (row .entry))) ⌝ }
 {
-    for j in 0..i {
-        let p = place(n, i, j);
-        let q = place(n, j, i);
-        a[q] = a[p];
+    for j in 0..row.len() {
+        row[j] = row[j] + (xs[j] - ys[j]);
     }
 }
 
-// The entries above the diagonal become those below it.
-pub fn mirror(a: &mut [f64], n: usize)
-    requires { ⌜ length (now a) ≡ n * n ⌝ }
-    ensures { λ _. ⌜ now (a .exit) ≡ symmetric (entry n (now (a .entry))) n ⌝ }
+// Adds row t of M less its row s.
+pub fn add_row_difference(w: &mut [f64], m: &[f64], n: usize, t: usize, s: usize)
+    requires { ⌜ (length (now w) ≡ n) × (length (now m) ≡ n * n) × (t < n) × (s < n) ⌝ }
+    ensures { λ _. ⌜ now (w .exit) ≡ table (λ j. now (w .entry) ‼ j ⊕ (entry n (now (m .entry)) t j ⊖ entry n (now (m .entry)) s j)) n ⌝ }
 {
-    for i in 0..n {
-        mirror_row(a, n, i);
-    }
+    let here = rows::matrix::place(n, t, 0);
+    let there = rows::matrix::place(n, s, 0);
+    let here_end = here + n;
+    let there_end = there + n;
+    add_difference(w, &m[here..here_end], &m[there..there_end]);
 }

@@ -1,31 +1,19 @@
--- What the two calls leave: the room's first n n numbers are M A M, and those are searched. Assumes nothing.
-use mathlib.Core.Path.{ap, sym, _∙_}
+-- The room's first n n numbers are M A M, and those are searched. Assumes nothing.
+use mathlib.Core.Path.{ap, _∙_}
 use Rattle.floats.specs.Search.{firstBad}
-use Rattle.projection.proofs.RoomLaws.{array-lent, half-lent, first-of}
+use Rattle.projection.proofs.RoomLaws.{half-lent, first-of}
 use borrow.Author.Needs.{needs}
 use Rattle.projection.proofs.mam.Statement.{statement}
 use Rattle.projection.proofs.mam.Tie as tie
 
-slice-aggregate-fill-room : tie.Need-slice-aggregate-fill-room
-slice-aggregate-fill-room c = sym (array-lent _ (c .before .before .before .before .pre .2))
-
-slice-aggregate-fill-room-2 : tie.Need-slice-aggregate-fill-room-2
-slice-aggregate-fill-room-2 c = sym (array-lent _ (c .before .before .before .before .before .pre .2))
-
-fill-room-requires : tie.Need-fill-room-requires
-fill-room-requires c κs =
-    let pre = c .before .before .before .before .before .before .pre in
-    (pre .0, array-lent _ (pre .2), array-lent _ (pre .2), pre .1, pre .3, pre .2)
-
 slice-aggregate-first-bad : tie.Need-slice-aggregate-first-bad
-slice-aggregate-first-bad c = half-lent _ (c .before .before .before .before .before .fill-room .last .0) (search needs)
+slice-aggregate-first-bad c = half-lent _ (c .before .before .before .fill-room .last .0) (search needs)
 
 returns : tie.Need-returns
-returns c = (c .first-bad .ensures ∙ ap firstBad (first-of _ _ _ _ (c .before .before .before .before .before .before .fill-room .last .0) _ (c .before .before .before .before .before .before .fill-room .ensures)), c .before .before .before .before .before .before .fill-room .ensures)
+returns c = (c .first-bad .ensures ∙ ap firstBad (first-of _ _ _ _ (c .before .before .before .before .fill-room .last .0) _ (c .before .before .before .before .fill-room .ensures)), c .before .before .before .before .fill-room .ensures)
 
 pub mam-spec : {M : Type 1} → statement M
 mam-spec =
     tie.close
-    (tie.spec (λ c. search needs) slice-aggregate-fill-room (λ c. search needs) slice-aggregate-fill-room-2
-    fill-room-requires (λ c. search needs) (λ c. search needs) slice-aggregate-first-bad (λ c κs. search needs)
-    (λ c. search needs) returns)
+    (tie.spec (λ c κs. search needs) (λ c. search needs) (λ c. search needs) slice-aggregate-first-bad
+    (λ c κs. search needs) (λ c. search needs) returns)

@@ -1,15 +1,13 @@
 -- The four steps one after another: X (X'X)^-1 X', its opposite, 1 added along the diagonal, the mirror. Assumes nothing.
-use Rattle.projection.specs.Projection.{hat}
-use Rattle.projection.proofs.LayerLaws.{sums}
 use mathlib.Core.Path.{_∙_}
-use Rattle.projection.proofs.MirrorLaws.{identified}
-use Rattle.projection.proofs.ProjectionLaws.{hatTo, residual-of}
+use Rattle.projection.proofs.IdentityLaws.{identified}
+use Rattle.projection.proofs.ProjectionLaws.{residual-of}
 use borrow.Author.Needs.{needs}
 use Rattle.projection.proofs.residual_maker.Statement.{statement}
 use Rattle.projection.proofs.residual_maker.Tie as tie
 
 returns : tie.Need-returns
-unfolding identified hat hatTo sums
+unfolding identified
 returns c =
     let args = c .before .before .before .before .before .before .before .before .before .before .before .before .before .before .before .before .before .before .before .before .before .before .args in
     let hat = c .before .before .before .before .before .before .before .before .before .before .before .before .before .before .before .before .hat in

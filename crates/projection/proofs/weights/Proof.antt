@@ -1,4 +1,4 @@
--- After t turns the first t numbers are the column's. Assumes nothing.
+-- After c turns the first c numbers are the row's. Assumes nothing.
 use lib.Ieee.{nan}
 use Rattle.projection.specs.Projection.{weight}
 use Rattle.floats.proofs.RowLaws.{filled, filled-none, filled-more, filled-all}
@@ -11,13 +11,13 @@ use Rattle.projection.proofs.weights.Statement.{statement}
 use Rattle.projection.proofs.weights.Tie as tie
 
 abbrev Inv-loop : tie.InvT-loop
-Inv-loop u₀ x inv n k c t₀ u t = (t ≤ n) × (length u ≡ length u₀) × (u ≡ filled (λ t. weight x inv n k t c) t u₀)
+Inv-loop u₀ x inv n k i c₀ u c = (c ≤ k) × (length u ≡ length u₀) × (u ≡ filled (λ c. weight x inv n k i c) c u₀)
 
 abbrev μ-loop : tie.MeasureT-loop
-μ-loop u₀ x inv n k c t₀ u t = n - t
+μ-loop u₀ x inv n k i c₀ u c = k - c
 
 loop-again : tie.Need-loop-again Inv-loop μ-loop
-loop-again c = let h : c .before .before .loop .t < length (c .before .before .before .before .before .args .u .now) = search needs in (omega arith, simp length-set (omega arith), rw (c .before .before .loop .inv .2, c .weight .ensures) (filled-more _ _ _ nan h))
+loop-again c = let h : c .before .before .loop .c < length (c .before .before .before .before .before .args .u .now) = search needs in (omega arith, simp length-set (omega arith), rw (c .before .before .loop .inv .2, c .weight .ensures) (filled-more _ _ _ nan h))
 
 returns : tie.Need-returns Inv-loop μ-loop
 returns c = c .before .loop .inv .2 ∙ filled-all _ _ _ (search needs) (search needs) ∙ rw (c .before .before .before .before .pre .0)

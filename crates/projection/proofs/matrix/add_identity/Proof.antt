@@ -1,7 +1,7 @@
 -- After i turns the first i entries of the diagonal are one larger. Assumes nothing.
 use Rattle.floats.specs.Matrix.{entry}
 use Rattle.floats.proofs.MatrixLaws.{rowsTo, rows-none, rows-all, square-of}
-use Rattle.projection.proofs.MirrorLaws.{identified, identity-row}
+use Rattle.projection.proofs.IdentityLaws.{identified, identity-row}
 use Prim.Native.Nat.{_≤_, _-_}
 use native.Mathlib.Omega.{arith}
 use native.Mathlib.Nat.{le-antisymm}

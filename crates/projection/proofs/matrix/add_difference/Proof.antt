@@ -7,8 +7,8 @@ use native.Mathlib.Omega.{arith}
 use mathlib.Core.Path.{_≡_, refl, _∙_}
 use lib.ListN.{length, length-set}
 use borrow.Author.Needs.{needs}
-use Rattle.projection.proofs.rows.add_difference.Statement.{statement}
-use Rattle.projection.proofs.rows.add_difference.Tie as tie
+use Rattle.projection.proofs.matrix.add_difference.Statement.{statement}
+use Rattle.projection.proofs.matrix.add_difference.Tie as tie
 
 abbrev Inv-loop : tie.InvT-loop
 Inv-loop row₀ xs ys j₀ j-end row j = (j ≤ length row₀) × (length row ≡ length row₀) × (j-end ≡ length row₀) × (row ≡ filled (λ j. row₀ ‼ j ⊕ (xs ‼ j ⊖ ys ‼ j)) j row₀)

@@ -2,8 +2,8 @@
 use mathlib.Core.Path.{_∙_}
 use Rattle.projection.proofs.ProjectionLaws.{row-difference}
 use borrow.Author.Needs.{needs}
-use Rattle.projection.proofs.add_row_difference.Statement.{statement}
-use Rattle.projection.proofs.add_row_difference.Tie as tie
+use Rattle.projection.proofs.matrix.add_row_difference.Statement.{statement}
+use Rattle.projection.proofs.matrix.add_row_difference.Tie as tie
 
 returns : tie.Need-returns
 returns c =
