@@ -1,2 +1,5 @@
+mod StairLaws
 pub mod ReflectionLaws
+mod HalfLaws
+mod KeptLaws
 pub mod Examples

@@ -1,2 +1,3 @@
 pub mod Reflection
+pub mod Half
 pub mod Bands

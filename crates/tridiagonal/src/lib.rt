@@ -8,9 +8,10 @@ ghost use Rattle.tridiagonal.specs.Reflection.{tridiagonalOf};
 ghost use Rattle.tridiagonal.specs.Bands.{diagonalOf, coupling, couplingsOf};
 
 mod reflection;
-mod rows;
+mod vectors;
 
-// The matrix of n rows and n columns in `a`, row after row, made tridiagonal.
+// The matrix of n rows and n columns in `a`, row after row, made tridiagonal. The reflections keep one half of it,
+// which is mirrored at the end.
 pub fn tridiagonalize(a: &mut [f64], n: usize)
     requires { ⌜ (length (now a) ≡ n * n) × (n ≤ 256) × (Symmetric n (now a)) ⌝ }
     ensures { λ _. ⌜ now (a .exit) ≡ tridiagonalOf n (now (a .entry)) ⌝ }
@@ -24,6 +25,7 @@ pub fn tridiagonalize(a: &mut [f64], n: usize)
         let below = n - (c + 1);
         reflection::reflect(a, n, c, &mut v[..below], &mut p[..below]);
     }
+    rows::matrix::mirror(a, n);
 }
 
 // What couples row i and the next.
@@ -32,7 +34,7 @@ fn coupling(a: &[f64], n: usize, i: usize) -> f64
     ensures { λ r. ⌜ r ≡ coupling n (now (a .entry)) i ⌝ }
 {
     if i + 1 < n {
-        a[reflection::place(n, i + 1, i)]
+        a[rows::matrix::place(n, i + 1, i)]
     } else {
         0.0
     }
@@ -45,7 +47,7 @@ pub fn bands(a: &[f64], n: usize, d: &mut [f64], e: &mut [f64])
     ensures { λ _. ⌜ now (e .exit) ≡ couplingsOf n (now (a .entry)) ++ drop n (now (e .entry)) ⌝ }
 {
     for i in 0..n {
-        d[i] = a[reflection::place(n, i, i)];
+        d[i] = a[rows::matrix::place(n, i, i)];
         e[i] = coupling(a, n, i);
     }
 }

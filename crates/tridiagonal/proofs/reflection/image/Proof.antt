@@ -1,5 +1,8 @@
-use Rattle.tridiagonal.proofs.ReflectionLaws.{imageTo, image-none, image-more, image-four, image-all}
+-- Before each turn r is a group's start, and the first r numbers have their first r terms. A group brings the numbers before it their next terms, and its own numbers all theirs so far. Assumes nothing.
+use Rattle.floats.proofs.RowLaws.{filled, filled-none, filled-all}
 use Rattle.tridiagonal.specs.Reflection.{below}
+use Rattle.tridiagonal.proofs.StairLaws.{Whole, whole-none, whole-more}
+use Rattle.tridiagonal.proofs.HalfLaws.{imageTo, image-more, image-all}
 use Prim.Native.Nat.{_≤_, _-_}
 use native.Mathlib.Omega.{arith}
 use native.Mathlib.Nat.{le-antisymm}
@@ -10,46 +13,26 @@ use Rattle.tridiagonal.proofs.reflection.image.Statement.{statement}
 use Rattle.tridiagonal.proofs.reflection.image.Tie as tie
 
 abbrev Inv-loop : tie.InvT-loop
-Inv-loop p₀ a n c v m t₀ p t = (t ≤ below n c) × (m ≡ below n c) × (length p ≡ below n c) × (p ≡ imageTo n c a v t)
+Inv-loop p₀ a n c v m r₀ p r = (r ≤ below n c) × (m ≡ below n c) × (length p ≡ below n c) × (Whole n c r) × (p ≡ filled (imageTo n c a v r) r p₀)
 
 abbrev μ-loop : tie.MeasureT-loop
-μ-loop p₀ a n c v m t₀ p t = below n c - t
+μ-loop p₀ a n c v m r₀ p r = below n c - r
 
-abbrev Inv-loop2 : tie.InvT-loop2
-Inv-loop2 p₀ a n c v m t₀ p t = (t ≤ below n c) × (m ≡ below n c) × (length p ≡ below n c) × (p ≡ imageTo n c a v t)
+loop-holds : tie.Need-loop-holds Inv-loop μ-loop
+loop-holds c = (omega arith, search needs, search needs, whole-none _ _, filled-none _ _)
 
-abbrev μ-loop2 : tie.MeasureT-loop2
-μ-loop2 p₀ a n c v m t₀ p t = below n c - t
+loop-again : tie.Need-loop-again Inv-loop μ-loop
+loop-again c =
+    let loop = c .before .before .before .before .before .before .before .before .before .before .loop in
+    let next = c .before .before .before .before .before .before .before .before .group-end .ensures .0 in
+    (search needs, search needs, search needs, whole-more _ _ _ (loop .inv .3) _ (rw next) (search needs), rw (c .before .before .sum-group .ensures) (image-more _ _ _ _ _ _ (loop .inv .3) (rw next) (search needs) _ _ _ (loop .inv .4) (c .before .before .before .before .before .before .add-group .ensures)))
 
-loop-holds : tie.Need-loop-holds Inv-loop μ-loop Inv-loop2 μ-loop2
-loop-holds c = (omega arith, search needs, search needs, c .before .before .fill .ensures ∙ rw (c .before .before .before .before .before .before .before .pre .0) (image-none _ _ _ _))
-
-loop-again : tie.Need-loop-again Inv-loop μ-loop Inv-loop2 μ-loop2
-loop-again c = (omega arith, search needs, search needs, c .before .before .add-four-rows .ensures ∙ rw (c .before .before .before .before .before .loop .inv .3) (image-four _ _ _ _ _))
-
-shared-slice-read-add-multiple :
-    tie.Need-shared-slice-read-add-multiple Inv-loop μ-loop Inv-loop2 μ-loop2
-shared-slice-read-add-multiple c = search needs
-
-loop2-again : tie.Need-loop2-again Inv-loop μ-loop Inv-loop2 μ-loop2
-loop2-again c =
-    let pre = c .before .before .before .before .before .before .before .before .before .before .before .before .before .before .before .before .before .before .pre in
-    let loop2 = c .before .before .before .before .before .before .before .before .loop2 in
-    let place = c .before .before .before .before .before .before .place in
-    (omega arith, search needs, search needs, c .before .before .add-multiple .ensures ∙ rw (loop2 .inv .3) (image-more _ _ _ _ _ _ _ (pre .2) (pre .3) (search needs) (loop2 .inv .1) (place .ensures .0)))
-
-returns : tie.Need-returns Inv-loop μ-loop Inv-loop2 μ-loop2
-returns c =
-    let pre = c .before .before .before .before .before .before .before .before .before .before .before .pre in
-    let loop2 = c .before .loop2 in
-    loop2 .inv .3 ∙ rw (le-antisymm (loop2 .inv .0) (search needs)) (image-all _ _ _ _ (pre .3) (pre .4))
+returns : tie.Need-returns Inv-loop μ-loop
+returns c = c .before .loop .inv .4 ∙ filled-all _ _ _ (search needs) (search needs) ∙ image-all _ _ _ _ (c .before .before .before .before .before .args .p .now) _ (le-antisymm (c .before .loop .inv .0) (search needs)) (c .before .before .before .before .before .pre .0)
 
 pub image-spec : {M : Type 1} → statement M
 image-spec =
     tie.close
-    (tie.spec Inv-loop μ-loop Inv-loop2 μ-loop2 (λ c κs. search needs) loop-holds (λ c. search needs)
-    (λ c κs. search needs) (λ c. search needs) (λ c. search needs) loop-again (λ c. c .before .loop .inv)
-    (λ c. search needs) (λ c. search needs) (λ c. search needs) (λ c κs. search needs) (λ c. search needs)
-    (λ c. search needs) (λ c. search needs) (λ c. search needs) (λ c. search needs) (λ c. search needs)
-    shared-slice-read-add-multiple (λ c κs. search needs) (λ c. search needs) (λ c. search needs) loop2-again
-    (λ c. search needs) returns)
+    (tie.spec Inv-loop μ-loop loop-holds (λ c. search needs) (λ c. search needs) (λ c κs. search needs)
+    (λ c. search needs) (λ c. search needs) (λ c κs. search needs) (λ c κs. search needs) (λ c. search needs)
+    loop-again (λ c. search needs) returns)

@@ -1,7 +1,7 @@
+-- The three ways a reflection goes. Assumes nothing.
 use native.Mathlib.Omega.{arith}
 use lib.ListN.{length-set}
-use mathlib.Core.Path.{_∙_}
-use Rattle.tridiagonal.proofs.ReflectionLaws.{still, flat, turned}
+use Rattle.tridiagonal.proofs.HalfLaws.{still, flat, turned}
 use Rattle.floats.specs.Words.{plusZero}
 use borrow.Author.Needs.{needs}
 use Rattle.tridiagonal.proofs.reflection.reflect.Statement.{statement}
@@ -20,9 +20,7 @@ returns-2 c =
     flat _ _ _ _ _ _ _ (copy-column .ensures) (sum-squares .ensures) (sqrt .ensures) (if1 .left) (signed .ensures) _ (c .before .sum-squares2 .ensures) (c .if2 .taken)
 
 turn-requires : tie.Need-turn-requires
-turn-requires c κs =
-    let pre = c .before .before .before .before .before .before .before .before .before .before .before .before .before .before .before .before .before .before .before .before .before .pre in
-    (pre .0, pre .1, simp length-set (omega arith), search needs, pre .4)
+turn-requires c κs = (search needs, search needs, simp length-set (omega arith), search needs)
 
 returns-3 : tie.Need-returns-3
 returns-3 c =
@@ -33,8 +31,7 @@ returns-3 c =
     let signed = c .before .before .before .before .before .before .before .before .before .before .before .before .signed in
     let sum-squares2 = c .before .before .before .before .before .before .before .before .before .sum-squares2 in
     let if2 = c .before .before .before .before .before .before .before .before .if2 in
-    let turn = c .before .before .before .before .turn in
-    turn .ensures ∙ turned _ _ _ _ _ _ _ (copy-column .ensures) (sum-squares .ensures) (sqrt .ensures) (if1 .left) (signed .ensures) _ (sum-squares2 .ensures) (if2 .left)
+    rw (c .before .before .before .before .turn .ensures) (turned _ _ _ _ _ _ _ (copy-column .ensures) (sum-squares .ensures) (sqrt .ensures) (if1 .left) (signed .ensures) _ (sum-squares2 .ensures) (if2 .left))
 
 pub reflect-spec : {M : Type 1} → statement M
 reflect-spec =

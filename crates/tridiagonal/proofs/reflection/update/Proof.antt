@@ -1,7 +1,8 @@
-use Rattle.tridiagonal.proofs.ReflectionLaws.{updated, update-none, update-row, update-all}
+-- After t turns the first t rows of S are new, each up to its group's end. Assumes nothing.
 use Rattle.floats.specs.Matrix.{entry}
 use Rattle.floats.proofs.MatrixLaws.{rowsTo}
 use Rattle.tridiagonal.specs.Reflection.{below}
+use Rattle.tridiagonal.proofs.HalfLaws.{updated, update-none, update-row, update-all}
 use Prim.Native.Nat.{_≤_, _-_, _+_}
 use native.Mathlib.Omega.{arith}
 use native.Mathlib.Nat.{le-antisymm}
@@ -22,10 +23,8 @@ loop-holds c = (omega arith, search needs, refl, update-none _ _ _ _ _ (c .befor
 
 loop-again : tie.Need-loop-again Inv-loop μ-loop
 loop-again c =
-    let pre = c .before .before .before .before .before .before .before .before .before .before .before .before .pre in
-    let loop = c .before .before .before .before .before .before .before .before .loop in
-    let place = c .before .before .before .before .before .before .place in
-    (omega arith, search needs, search needs, rw (c .before .before .take-multiples .ensures, loop .inv .3) (update-row _ _ _ _ _ _ _ _ (pre .3) (search needs) (pre .1) (place .ensures .0)))
+    let end = c .before .before .before .before .before .before .group-end .ensures in
+    (omega arith, search needs, search needs, rw (c .before .before .take-multiples .ensures, c .before .before .before .before .before .before .before .before .before .loop .inv .3) (update-row _ _ _ _ _ _ _ _ _ (c .before .before .before .before .before .before .before .before .before .before .before .before .before .pre .3) (search needs) (c .before .before .before .before .before .before .before .place .ensures .0) (end .0) (end .1) (end .2) (search needs)))
 
 returns : tie.Need-returns Inv-loop μ-loop
 returns c = c .before .loop .inv .3 ∙ rw (le-antisymm (c .before .loop .inv .0) (search needs)) (update-all _ _ _ _ _ (c .before .before .before .before .before .pre .3))
@@ -34,6 +33,7 @@ pub update-spec : {M : Type 1} → statement M
 update-spec =
     tie.close
     (tie.spec Inv-loop μ-loop loop-holds (λ c. search needs) (λ c. search needs) (λ c. search needs)
-    (λ c κs. search needs) (λ c. search needs) (λ c. search needs) (λ c. search needs) (λ c. search needs)
+    (λ c κs. search needs) (λ c. search needs) (λ c. search needs) (λ c κs. search needs) (λ c. search needs)
+    (λ c. search needs) (λ c. search needs) (λ c. search needs) (λ c. search needs) (λ c. search needs)
     (λ c. search needs) (λ c. search needs) (λ c. search needs) (λ c. search needs) (λ c. search needs)
     (λ c κs. search needs) (λ c. search needs) (λ c. search needs) loop-again (λ c. search needs) returns)

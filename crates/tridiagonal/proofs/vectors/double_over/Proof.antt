@@ -6,8 +6,8 @@ use native.Mathlib.Omega.{arith}
 use mathlib.Core.Path.{_≡_, refl, _∙_}
 use lib.ListN.{length, length-set}
 use borrow.Author.Needs.{needs}
-use Rattle.tridiagonal.proofs.rows.double_over.Statement.{statement}
-use Rattle.tridiagonal.proofs.rows.double_over.Tie as tie
+use Rattle.tridiagonal.proofs.vectors.double_over.Statement.{statement}
+use Rattle.tridiagonal.proofs.vectors.double_over.Tie as tie
 
 abbrev Inv-loop : tie.InvT-loop
 Inv-loop row₀ w j₀ j-end row j = (j ≤ length row₀) × (length row ≡ length row₀) × (j-end ≡ length row₀) × (row ≡ filled (λ j. two ⊗ row₀ ‼ j ⊘ w) j row₀)
