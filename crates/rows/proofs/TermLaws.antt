@@ -58,72 +58,49 @@ pub dot-more : (xs : List Float) (stride : ℕ) (v : List Float) (s j p : ℕ) �
 unfolding sumOf dotTerm
 dot-more xs stride v s j p e = rw (e, add-one j)
 
--- four numbers stored into a run of four
-pub four-stored : (f : ℕ → Float) (p : List Float) (a b c d : Float) → length p ≡ 4 → a ≡ f 0 → b ≡ f 1 → c ≡ f 2 → d ≡ f 3 → set (set (set (set p 0 a) 1 b) 2 c) 3 d ≡ table f 4
+-- eight numbers stored into a run of eight
+pub eight-stored : (f : ℕ → Float) (p : List Float) → length p ≡ 8
+    → set (set (set (set (set (set (set (set p 0 (f 0)) 1 (f 1)) 2 (f 2)) 3 (f 3)) 4 (f 4)) 5 (f 5)) 6 (f 6)) 7 (f 7) ≡ table f 8
 unfolding table
-four-stored f p a b c d e k l m n =
-    rw (k, l, m, n)
-    (ap (λ q. set (set (set q 1 (f 1)) 2 (f 2)) 3 (f 3)) (filled-more f p 0 nan (omega arith)) ∙ ap (λ q. set (set q 2 (f 2)) 3 (f 3)) (filled-more f p 1 nan (omega arith))
-    ∙ ap (λ q. set q 3 (f 3)) (filled-more f p 2 nan (omega arith)) ∙ filled-more f p 3 nan (omega arith) ∙ filled-all f p 4 (omega arith) (omega arith) ∙ rw e)
+eight-stored f p e =
+    ap (λ q. set (set (set (set (set (set (set q 1 (f 1)) 2 (f 2)) 3 (f 3)) 4 (f 4)) 5 (f 5)) 6 (f 6)) 7 (f 7)) (filled-more f p 0 nan (omega arith))
+    ∙ ap (λ q. set (set (set (set (set (set q 2 (f 2)) 3 (f 3)) 4 (f 4)) 5 (f 5)) 6 (f 6)) 7 (f 7)) (filled-more f p 1 nan (omega arith))
+    ∙ ap (λ q. set (set (set (set (set q 3 (f 3)) 4 (f 4)) 5 (f 5)) 6 (f 6)) 7 (f 7)) (filled-more f p 2 nan (omega arith))
+    ∙ ap (λ q. set (set (set (set q 4 (f 4)) 5 (f 5)) 6 (f 6)) 7 (f 7)) (filled-more f p 3 nan (omega arith))
+    ∙ ap (λ q. set (set (set q 5 (f 5)) 6 (f 6)) 7 (f 7)) (filled-more f p 4 nan (omega arith)) ∙ ap (λ q. set (set q 6 (f 6)) 7 (f 7)) (filled-more f p 5 nan (omega arith))
+    ∙ ap (λ q. set q 7 (f 7)) (filled-more f p 6 nan (omega arith)) ∙ filled-more f p 7 nan (omega arith) ∙ filled-all f p 8 (omega arith) (omega arith) ∙ rw e
 
--- ---- eight runs from run t on, as two runs of four
+-- ---- eight terms, and those of k runs from run t on
 
-module _ (stride t : ℕ) where
-  fifth-in : (t + 4) * stride ≡ t * stride + 4 * stride
-  fifth-in = add-mul t 4 stride
+pub eight-of : (x : Float) (xs w : List Float) (stride j : ℕ)
+    → x ⊕ xs ‼ j ⊗ w ‼ 0 ⊕ xs ‼ (stride + j) ⊗ w ‼ 1 ⊕ xs ‼ (2 * stride + j) ⊗ w ‼ 2 ⊕ xs ‼ (3 * stride + j) ⊗ w ‼ 3 ⊕ xs ‼ (4 * stride + j) ⊗ w ‼ 4 ⊕ xs ‼ (5 * stride + j) ⊗ w ‼ 5 ⊕ xs ‼ (6 * stride + j) ⊗ w ‼ 6 ⊕ xs ‼ (7 * stride + j) ⊗ w ‼ 7
+    ≡ sumFrom x 8 (λ s. xs ‼ (s * stride + j) ⊗ w ‼ s)
+unfolding sumFrom
+eight-of x xs w stride j =
+    let a : 0 * stride + j ≡ j = omega arith in
+    let b : 1 * stride + j ≡ stride + j = omega arith in
+    rw (a, b)
 
-  pub reach-eight : (k m l : ℕ) → Reach k stride m l → t + 8 ≤ k → ((t + 4) * stride ≡ t * stride + 4 * stride) × (t * stride + (7 * stride + m) ≤ l)
-  reach-eight k m l r h = let z = r (t + 7) (omega arith) in let y = add-mul t 7 stride in (fifth-in, omega arith)
+-- the last of k + 1 runs from run t on
+pub reach-group : (stride t k n m l : ℕ) → Reach n stride m l → t + (k + 1) ≤ n → t * stride + (k * stride + m) ≤ l
+reach-group stride t k n m l r h = let z = r (t + k) (omega arith) in let y = add-mul t k stride in omega arith
 
-  module _ (m f g : ℕ) (row xs w : List Float) (p : f ≡ t * stride) (q : g ≡ (t + 4) * stride) (z : t * stride + (7 * stride + m) ≤ length xs) (h : t + 8 ≤ length w) (o : length row ≡ m) where
-    -- number j of run s of the first four, of the second four, and number s of w
-    low : (s j : ℕ) → s < 4 → j < m → part f (f + (3 * stride + m)) xs ‼ (s * stride + j) ≡ xs ‼ ((t + s) * stride + j)
-    low s j a b =
-        let c : s ≤ 3 = omega arith in
-        let y = mul-le-mul-right stride c in
-        let e : f + (s * stride + j) ≡ (t + s) * stride + j = let x = add-mul t s stride in omega arith in
-        getD-part xs {a = f} {e = f + (3 * stride + m)} (omega arith) (omega arith) (s * stride + j) nan (omega arith) ∙ ap (λ (i : ℕ). xs ‼ i) e
+-- as a part of the run they stand in
+module _ (stride t k m : ℕ) (xs : List Float) (start : ℕ) (p : start ≡ t * stride) (z : t * stride + (k * stride + m) ≤ length xs) where
+  in-part : (s j : ℕ) → s < k + 1 → j < m → part start (start + (k * stride + m)) xs ‼ (s * stride + j) ≡ xs ‼ ((t + s) * stride + j)
+  in-part s j a b =
+      let c : s ≤ k = omega arith in
+      let y = mul-le-mul-right stride c in
+      let e : start + (s * stride + j) ≡ (t + s) * stride + j = let x = add-mul t s stride in omega arith in
+      getD-part xs {a = start} {e = start + (k * stride + m)} (omega arith) (omega arith) (s * stride + j) nan (omega arith) ∙ ap (λ (i : ℕ). xs ‼ i) e
 
-    high : (s j : ℕ) → s < 4 → j < m → part g (g + (3 * stride + m)) xs ‼ (s * stride + j) ≡ xs ‼ ((t + (4 + s)) * stride + j)
-    high s j a b =
-        let c : s ≤ 3 = omega arith in
-        let y = mul-le-mul-right stride c in
-        let x = fifth-in in
-        let e : g + (s * stride + j) ≡ (t + (4 + s)) * stride + j = let u = add-mul t (4 + s) stride in let v = add-mul 4 s stride in omega arith in
-        getD-part xs {a = g} {e = g + (3 * stride + m)} (omega arith) (omega arith) (s * stride + j) nan (omega arith) ∙ ap (λ (i : ℕ). xs ‼ i) e
-
-    factor : (s : ℕ) → s < 8 → part t (t + 8) w ‼ s ≡ w ‼ (t + s)
-    factor s a = getD-part w {a = t} {e = t + 8} (omega arith) (omega arith) s nan (omega arith)
-
-    pub eight-terms :
-        table (λ j. row ‼ j ⊕ part f (f + (3 * stride + m)) xs ‼ j ⊗ part t (t + 8) w ‼ 0 ⊕ part f (f + (3 * stride + m)) xs ‼ (stride + j) ⊗ part t (t + 8) w ‼ 1 ⊕ part f (f + (3 * stride + m)) xs ‼ (2 * stride + j) ⊗ part t (t + 8) w ‼ 2 ⊕ part f (f + (3 * stride + m)) xs ‼ (3 * stride + j) ⊗ part t (t + 8) w ‼ 3 ⊕ part g (g + (3 * stride + m)) xs ‼ j ⊗ part t (t + 8) w ‼ 4 ⊕ part g (g + (3 * stride + m)) xs ‼ (stride + j) ⊗ part t (t + 8) w ‼ 5 ⊕ part g (g + (3 * stride + m)) xs ‼ (2 * stride + j) ⊗ part t (t + 8) w ‼ 6 ⊕ part g (g + (3 * stride + m)) xs ‼ (3 * stride + j) ⊗ part t (t + 8) w ‼ 7) (length row)
-        ≡ table (λ j. sumFrom (row ‼ j) 8 (λ s. xs ‼ ((t + s) * stride + j) ⊗ w ‼ (t + s))) (length row)
-    unfolding sumFrom
-    eight-terms =
-        table-same _ _ (length row)
-        (λ j l. let d : j < m = omega arith in
-        let zeroth : 0 * stride + j ≡ j = omega arith in
-        let first : 1 * stride + j ≡ stride + j = omega arith in
-        let a0 = low 0 j (omega arith) d in let a1 = low 1 j (omega arith) d in let a2 = low 2 j (omega arith) d in let a3 = low 3 j (omega arith) d in
-        let b0 = high 0 j (omega arith) d in let b1 = high 1 j (omega arith) d in let b2 = high 2 j (omega arith) d in let b3 = high 3 j (omega arith) d in
-        rw (
-          ap (λ (i : ℕ). part f (f + (3 * stride + m)) xs ‼ i) (sym zeroth) ∙ a0,
-          ap (λ (i : ℕ). part f (f + (3 * stride + m)) xs ‼ i) (sym first) ∙ a1,
-          a2,
-          a3,
-          ap (λ (i : ℕ). part g (g + (3 * stride + m)) xs ‼ i) (sym zeroth) ∙ b0,
-          ap (λ (i : ℕ). part g (g + (3 * stride + m)) xs ‼ i) (sym first) ∙ b1,
-          b2,
-          b3,
-          factor 0 (omega arith),
-          factor 1 (omega arith),
-          factor 2 (omega arith),
-          factor 3 (omega arith),
-          factor 4 (omega arith),
-          factor 5 (omega arith),
-          factor 6 (omega arith),
-          factor 7 (omega arith),
-        ))
+  pub group-terms : (row w : List Float) → t + (k + 1) ≤ length w → length row ≡ m
+      → table (λ j. sumFrom (row ‼ j) (k + 1) (λ s. part start (start + (k * stride + m)) xs ‼ (s * stride + j) ⊗ part t (t + (k + 1)) w ‼ s)) (length row)
+      ≡ table (λ j. sumFrom (row ‼ j) (k + 1) (λ s. xs ‼ ((t + s) * stride + j) ⊗ w ‼ (t + s))) (length row)
+  group-terms row w h o =
+      table-same _ _ (length row)
+      (λ j l. from-same (row ‼ j) (k + 1) _ _
+      (λ s b. rw (in-part s j b (omega arith), getD-part w {a = t} {e = t + (k + 1)} (omega arith) (omega arith) s nan (omega arith))))
 
 -- ---- four terms, and sixteen of runs that stand 256 apart
 
@@ -147,17 +124,6 @@ module _ (x : Float) (xs w : List Float) (j : ℕ) where
       let eight = q ∙ rw four (from-same _ 4 _ _ (λ t h. let e : 1024 + j + t * 256 ≡ (4 + t) * 256 + j = omega arith in rw e)) ∙ from-group x wide 4 4 in
       let twelve = m ∙ rw eight (from-same _ 4 _ _ (λ t h. let e : 2048 + j + t * 256 ≡ (8 + t) * 256 + j = omega arith in rw e)) ∙ from-group x wide 8 4 in
       n ∙ rw twelve (from-same _ 4 _ _ (λ t h. let e : 3072 + j + t * 256 ≡ (12 + t) * 256 + j = omega arith in rw e)) ∙ from-group x wide 12 4
-
-module _ (t m : ℕ) (row xs w : List Float) (start : ℕ) (p : start ≡ t * 256) (z : (t + 15) * 256 + m ≤ length xs) (h : t + 16 ≤ length w) (o : length row ≡ m) where
-  -- sixteen runs from run t on
-  pub sixteen-terms :
-      table (λ j. sumFrom (row ‼ j) 16 (λ s. part start (start + (3840 + m)) xs ‼ (s * 256 + j) ⊗ part t (t + 16) w ‼ s)) (length row)
-      ≡ table (λ j. sumFrom (row ‼ j) 16 (λ s. xs ‼ ((t + s) * 256 + j) ⊗ w ‼ (t + s))) (length row)
-  sixteen-terms =
-      table-same _ _ (length row)
-      (λ j l. from-same (row ‼ j) 16 _ _
-      (λ s b. let e : start + (s * 256 + j) ≡ (t + s) * 256 + j = omega arith in
-      rw (getD-part xs {a = start} {e = start + (3840 + m)} (omega arith) (omega arith) (s * 256 + j) nan (omega arith), e, getD-part w {a = t} {e = t + 16} (omega arith) (omega arith) s nan (omega arith))))
 
 -- ---- the terms of a row of sums, group by group
 
@@ -193,7 +159,7 @@ module _ (row xs : List Float) (stride : ℕ) (w : List Float) where
       ∙ table-same _ _ (length row)
       (λ j h. rw (at-terms t j h, getD-part xs {a = start} {e = start + length (termsTo t)} (omega arith) (omega arith) j nan (omega arith), e) (sym (from-more (row ‼ j) (λ s. xs ‼ (s * stride + j) ⊗ w ‼ s) t)))
 
--- ---- runs of sums, four at a time
+-- ---- runs of sums, eight at a time
 
 table-group : (f : ℕ → Float) (t k : ℕ) → table f (t + k) ≡ table f t ++ table (λ s. f (t + s)) k
 unfolding table
@@ -211,20 +177,11 @@ module _ (xs : List Float) (stride : ℕ) (v : List Float) where
   unfoldable pub dot : ℕ → Float
   dot s = sumOf (length v) (λ j. xs ‼ (s * stride + j) ⊗ v ‼ j)
 
-  pub reach-four : (k t l : ℕ) → Reach k stride (length v) l → t + 4 ≤ k → t * stride + (3 * stride + length v) ≤ l
-  reach-four k t l r h = let z = r (t + 3) (omega arith) in let y = add-mul t 3 stride in omega arith
-
-  pub four-sums : (t start end : ℕ) → start ≡ t * stride → end ≡ start + (3 * stride + length v) → t * stride + (3 * stride + length v) ≤ length xs
-      → table (λ s. sumOf (length v) (λ j. part start end xs ‼ (s * stride + j) ⊗ v ‼ j)) 4 ≡ table (λ s. dot (t + s)) 4
+  pub eight-sums : (t start : ℕ) → start ≡ t * stride → t * stride + (7 * stride + length v) ≤ length xs
+      → table (λ s. sumOf (length v) (λ j. part start (start + (7 * stride + length v)) xs ‼ (s * stride + j) ⊗ v ‼ j)) 8 ≡ table (λ s. dot (t + s)) 8
   unfolding dot
-  four-sums t start end p q z =
-      table-same _ _ 4
-      (λ s h. sum-same (length v) _ _
-      (λ j l. ap (λ x. x ⊗ v ‼ j)
-      (let a : s ≤ 3 = omega arith in
-      let y = mul-le-mul-right stride a in
-      let e : start + (s * stride + j) ≡ (t + s) * stride + j = let x = add-mul t s stride in omega arith in
-      getD-part xs {a = start} {e = end} (omega arith) (omega arith) (s * stride + j) nan (omega arith) ∙ ap (λ (i : ℕ). xs ‼ i) e)))
+  eight-sums t start p z =
+      table-same _ _ 8 (λ s h. sum-same (length v) _ _ (λ j l. ap (λ x. x ⊗ v ‼ j) (in-part stride t 7 (length v) xs start p z s j h l)))
 
   pub one-sum : (t m : ℕ) → m ≡ length v → sumProducts xs (t * stride) v 0 m ≡ dot t
   unfolding dot

@@ -42,24 +42,22 @@ fn add_one(row: &mut [f64], xs: &[f64], w: f64)
     }
 }
 
-// Adds eight multiples, one after another: of four runs in `xs` and four in `ys`, each `stride` on from the one
-// before. Each number of `row` is read and written once for the eight. They are read in an order in which the compiler
-// finds no address to work out in the loop.
-fn add_eight(row: &mut [f64], xs: &[f64], ys: &[f64], stride: usize, w: &[f64])
-    requires { ⌜ (3 * stride + length (now row) ≤ length (now xs)) × (3 * stride + length (now row) ≤ length (now ys)) × (8 ≤ length (now w)) ⌝ }
-    ensures { λ _. ⌜ now (row .exit) ≡ table (λ j. now (row .entry) ‼ j ⊕ now (xs .entry) ‼ j ⊗ now (w .entry) ‼ 0 ⊕ now (xs .entry) ‼ (stride + j) ⊗ now (w .entry) ‼ 1 ⊕ now (xs .entry) ‼ (2 * stride + j) ⊗ now (w .entry) ‼ 2 ⊕ now (xs .entry) ‼ (3 * stride + j) ⊗ now (w .entry) ‼ 3 ⊕ now (ys .entry) ‼ j ⊗ now (w .entry) ‼ 4 ⊕ now (ys .entry) ‼ (stride + j) ⊗ now (w .entry) ‼ 5 ⊕ now (ys .entry) ‼ (2 * stride + j) ⊗ now (w .entry) ‼ 6 ⊕ now (ys .entry) ‼ (3 * stride + j) ⊗ now (w .entry) ‼ 7) (length (now (row .entry))) ⌝ }
+// Adds eight multiples, one after another, of the runs in `xs`, each `stride` on from the one before. Each number of
+// `row` is read and written once for the eight. The runs are read in an order in which the compiler finds no address to
+// work out in the loop.
+fn add_eight(row: &mut [f64], xs: &[f64], stride: usize, w: &[f64])
+    requires { ⌜ (7 * stride + length (now row) ≤ length (now xs)) × (8 ≤ length (now w)) ⌝ }
+    ensures { λ _. ⌜ now (row .exit) ≡ table (λ j. sumFrom (now (row .entry) ‼ j) 8 (λ s. now (xs .entry) ‼ (s * stride + j) ⊗ now (w .entry) ‼ s)) (length (now (row .entry))) ⌝ }
 {
-    let second = 2 * stride;
-    let third = 3 * stride;
     for j in 0..row.len() {
         let a = xs[j];
-        let e = ys[j];
-        let c = xs[second + j];
-        let g = ys[second + j];
+        let e = xs[4 * stride + j];
+        let c = xs[2 * stride + j];
+        let g = xs[6 * stride + j];
         let b = xs[stride + j];
-        let f = ys[stride + j];
-        let d = xs[third + j];
-        let h = ys[third + j];
+        let f = xs[5 * stride + j];
+        let d = xs[3 * stride + j];
+        let h = xs[7 * stride + j];
         row[j] = row[j]
             + a * w[0]
             + b * w[1]
@@ -77,19 +75,10 @@ fn add_next_eight(row: &mut [f64], xs: &[f64], stride: usize, w: &[f64], t: usiz
     requires { ⌜ (Reach (length (now w)) stride (length (now row)) (length (now xs))) × (t + 8 ≤ length (now w)) ⌝ }
     ensures { λ _. ⌜ now (row .exit) ≡ table (λ j. sumFrom (now (row .entry) ‼ j) 8 (λ s. now (xs .entry) ‼ ((t + s) * stride + j) ⊗ now (w .entry) ‼ (t + s))) (length (now (row .entry))) ⌝ }
 {
-    let width = 3 * stride + row.len();
-    let first = t * stride;
-    let fifth = (t + 4) * stride;
-    let first_end = first + width;
-    let fifth_end = fifth + width;
-    let end = t + 8;
-    add_eight(
-        row,
-        &xs[first..first_end],
-        &xs[fifth..fifth_end],
-        stride,
-        &w[t..end],
-    );
+    let start = t * stride;
+    let end = start + (7 * stride + row.len());
+    let next = t + 8;
+    add_eight(row, &xs[start..end], stride, &w[t..next]);
 }
 
 // x plus four terms: number `at` of `xs` times number s of `w`, and so on, `stride` on in the one and 1 in the other.
@@ -153,28 +142,39 @@ pub fn add_terms(row: &mut [f64], xs: &[f64], stride: usize, w: &[f64])
     }
 }
 
-// The sums of the products of four runs in `xs`, each `stride` on from the one before, with `v`.
-fn four_dots(p: &mut [f64], xs: &[f64], stride: usize, v: &[f64])
-    requires { ⌜ (length (now p) ≡ 4) × (3 * stride + length (now v) ≤ length (now xs)) ⌝ }
-    ensures { λ _. ⌜ now (p .exit) ≡ table (λ s. sumOf (length (now (v .entry))) (λ j. now (xs .entry) ‼ (s * stride + j) ⊗ now (v .entry) ‼ j)) 4 ⌝ }
+// The sums of the products of eight runs in `xs`, each `stride` on from the one before, with `v`. They are read in the
+// order of `add_eight`.
+fn eight_dots(p: &mut [f64], xs: &[f64], stride: usize, v: &[f64])
+    requires { ⌜ (length (now p) ≡ 8) × (7 * stride + length (now v) ≤ length (now xs)) ⌝ }
+    ensures { λ _. ⌜ now (p .exit) ≡ table (λ s. sumOf (length (now (v .entry))) (λ j. now (xs .entry) ‼ (s * stride + j) ⊗ now (v .entry) ‼ j)) 8 ⌝ }
 {
-    let second = 2 * stride;
-    let third = 3 * stride;
     let mut a = -0.0f64;
     let mut b = -0.0f64;
     let mut c = -0.0f64;
     let mut d = -0.0f64;
+    let mut e = -0.0f64;
+    let mut f = -0.0f64;
+    let mut g = -0.0f64;
+    let mut h = -0.0f64;
     for j in 0..v.len() {
         let x = v[j];
         a = a + xs[j] * x;
+        e = e + xs[4 * stride + j] * x;
+        c = c + xs[2 * stride + j] * x;
+        g = g + xs[6 * stride + j] * x;
         b = b + xs[stride + j] * x;
-        c = c + xs[second + j] * x;
-        d = d + xs[third + j] * x;
+        f = f + xs[5 * stride + j] * x;
+        d = d + xs[3 * stride + j] * x;
+        h = h + xs[7 * stride + j] * x;
     }
     p[0] = a;
     p[1] = b;
     p[2] = c;
     p[3] = d;
+    p[4] = e;
+    p[5] = f;
+    p[6] = g;
+    p[7] = h;
 }
 
 // The sums of the products of the runs in `xs`, each `stride` on from the one before, with `v`: one for each number of `p`.
@@ -186,10 +186,10 @@ pub fn dots(p: &mut [f64], xs: &[f64], stride: usize, v: &[f64])
     let mut t = 0usize;
     while t < p.len() {
         let start = t * stride;
-        if t + 4 <= p.len() {
-            let end = start + (3 * stride + m);
-            let next = t + 4;
-            four_dots(&mut p[t..next], &xs[start..end], stride, v);
+        if t + 8 <= p.len() {
+            let end = start + (7 * stride + m);
+            let next = t + 8;
+            eight_dots(&mut p[t..next], &xs[start..end], stride, v);
             t = next;
         } else {
             p[t] = floats::sums::sum_products(xs, start, v, 0, m);

@@ -4,7 +4,7 @@ use mathlib.Core.Path.{_≡_, refl, _∙_}
 use lib.ListN.{length, length-set}
 use lib.Ieee.{nan}
 use Rattle.floats.proofs.RowLaws.{filled, filled-none, filled-more, filled-all}
-use Rattle.rows.proofs.TermLaws.{dot, reach-four, four-sums, one-sum, filled-group}
+use Rattle.rows.proofs.TermLaws.{dot, reach-group, eight-sums, one-sum, filled-group}
 use borrow.Author.Needs.{needs}
 use Rattle.rows.proofs.dots.Statement.{statement}
 use Rattle.rows.proofs.dots.Tie as tie
@@ -19,25 +19,25 @@ mul-start : tie.Need-mul-start Inv-loop μ-loop
 mul-start c = let h = c .before .before .before .before .before .pre (c .before .loop .t) (search needs) in omega arith
 
 mul-end : tie.Need-mul-end Inv-loop μ-loop
-mul-end c = let h = reach-four (c .before .before .before .before .before .before .args .xs .now) (c .before .before .before .before .before .before .args .stride) (c .before .before .before .before .before .before .args .v .now) _ (c .before .before .loop .t) _ (c .before .before .before .before .before .before .pre) (search needs) in omega arith
+mul-end c = let h = reach-group (c .before .before .before .before .before .before .args .stride) (c .before .before .loop .t) 7 _ _ _ (c .before .before .before .before .before .before .pre) (search needs) in omega arith
 
 add-end : tie.Need-add-end Inv-loop μ-loop
-add-end c = let h = reach-four (c .before .before .before .before .before .before .args .xs .now) (c .before .before .before .before .before .before .args .stride) (c .before .before .before .before .before .before .args .v .now) _ (c .before .before .loop .t) _ (c .before .before .before .before .before .before .pre) (search needs) in omega arith
+add-end c = let h = reach-group (c .before .before .before .before .before .before .args .stride) (c .before .before .loop .t) 7 _ _ _ (c .before .before .before .before .before .before .pre) (search needs) in omega arith
 
 add-end-2 : tie.Need-add-end-2 Inv-loop μ-loop
-add-end-2 c = let h = reach-four (c .before .before .before .before .before .before .args .xs .now) (c .before .before .before .before .before .before .args .stride) (c .before .before .before .before .before .before .args .v .now) _ (c .before .before .loop .t) _ (c .before .before .before .before .before .before .pre) (search needs) in omega arith
+add-end-2 c = let h = reach-group (c .before .before .before .before .before .before .args .stride) (c .before .before .loop .t) 7 _ _ _ (c .before .before .before .before .before .before .pre) (search needs) in omega arith
 
-mul-four-dots-2 : tie.Need-mul-four-dots-2 Inv-loop μ-loop
-mul-four-dots-2 c = let h = reach-four (c .before .before .before .before .before .before .before .args .xs .now) (c .before .before .before .before .before .before .before .args .stride) (c .before .before .before .before .before .before .before .args .v .now) _ (c .before .before .before .loop .t) _ (c .before .before .before .before .before .before .before .pre) (search needs) in omega arith
+mul-eight-dots-2 : tie.Need-mul-eight-dots-2 Inv-loop μ-loop
+mul-eight-dots-2 c = let h = reach-group (c .before .before .before .before .before .before .before .args .stride) (c .before .before .before .loop .t) 7 _ _ _ (c .before .before .before .before .before .before .before .pre) (search needs) in omega arith
 
-part-four-dots-start-2 : tie.Need-part-four-dots-start-2 Inv-loop μ-loop
-part-four-dots-start-2 c = let h = reach-four (c .before .before .before .before .before .before .before .args .xs .now) (c .before .before .before .before .before .before .before .args .stride) (c .before .before .before .before .before .before .before .args .v .now) _ (c .before .before .before .loop .t) _ (c .before .before .before .before .before .before .before .pre) (search needs) in omega arith
+part-eight-dots-start-2 : tie.Need-part-eight-dots-start-2 Inv-loop μ-loop
+part-eight-dots-start-2 c = let h = reach-group (c .before .before .before .before .before .before .before .args .stride) (c .before .before .before .loop .t) 7 _ _ _ (c .before .before .before .before .before .before .before .pre) (search needs) in omega arith
 
-part-four-dots-end-2 : tie.Need-part-four-dots-end-2 Inv-loop μ-loop
-part-four-dots-end-2 c = let h = reach-four (c .before .before .before .before .before .before .before .args .xs .now) (c .before .before .before .before .before .before .before .args .stride) (c .before .before .before .before .before .before .before .args .v .now) _ (c .before .before .before .loop .t) _ (c .before .before .before .before .before .before .before .pre) (search needs) in omega arith
+part-eight-dots-end-2 : tie.Need-part-eight-dots-end-2 Inv-loop μ-loop
+part-eight-dots-end-2 c = let h = reach-group (c .before .before .before .before .before .before .before .args .stride) (c .before .before .before .loop .t) 7 _ _ _ (c .before .before .before .before .before .before .before .pre) (search needs) in omega arith
 
 loop-again : tie.Need-loop-again Inv-loop μ-loop
-loop-again c = (omega arith, search needs, search needs, rw (c .before .before .four-dots .ensures, c .before .before .before .before .before .before .before .loop .inv .3, c .before .before .before .before .before .before .before .loop .inv .1) (filled-group _ _ _ _ _ 4 refl (four-sums _ _ _ _ _ _ refl refl (reach-four (c .before .before .before .before .before .before .before .before .before .before .before .args .xs .now) (c .before .before .before .before .before .before .before .before .before .before .before .args .stride) (c .before .before .before .before .before .before .before .before .before .before .before .args .v .now) _ (c .before .before .before .before .before .before .before .loop .t) _ (c .before .before .before .before .before .before .before .before .before .before .before .pre) (search needs)))))
+loop-again c = (omega arith, search needs, search needs, rw (c .before .before .eight-dots .ensures, c .before .before .before .before .before .before .before .loop .inv .3, c .before .before .before .before .before .before .before .loop .inv .1) (filled-group _ _ _ _ _ 8 refl (eight-sums _ _ _ _ _ refl (reach-group (c .before .before .before .before .before .before .before .before .before .before .before .args .stride) (c .before .before .before .before .before .before .before .loop .t) 7 _ _ _ (c .before .before .before .before .before .before .before .before .before .before .before .pre) (search needs)))))
 
 sum-products-requires : tie.Need-sum-products-requires Inv-loop μ-loop
 sum-products-requires c κs = let h = c .before .before .before .before .before .before .pre (c .before .before .loop .t) (search needs) in search needs
@@ -54,6 +54,6 @@ dots-spec =
     tie.close
     (tie.spec Inv-loop μ-loop (λ c. (omega arith, refl, refl, filled-none _ _)) mul-start (λ c. search needs)
     mul-end add-end add-end-2 (λ c. search needs) (λ c. search needs) (λ c. search needs) (λ c. search needs)
-    (λ c. search needs) mul-four-dots-2 (λ c. search needs) part-four-dots-start-2 part-four-dots-end-2
+    (λ c. search needs) mul-eight-dots-2 (λ c. search needs) part-eight-dots-start-2 part-eight-dots-end-2
     (λ c κs. search needs) (λ c. search needs) loop-again sum-products-requires (λ c. search needs)
     (λ c. search needs) (λ c. search needs) (λ c. search needs) loop-again-2 (λ c. search needs) returns)
