@@ -28,9 +28,9 @@ use Rattle.projection.specs.Projection.{weight, hat, residual, maker, pr
 use Rattle.projection.proofs.IdentityLaws.{identified}
 use Rattle.projection.proofs.TriangleLaws.{lower, lower-row, sums, length-sums, sums-none, sums-more, sums-all}
 
--- runs of n, one after another, of which a row up to the diagonal is a part
-pub reach-rows : (n i k l : ℕ) → i < n → k * n ≤ l → Reach k n (i + 1) l
-reach-rows n i k l h b s c = let z = row-in n c in omega arith
+-- runs of n that stand a stride apart, of which a row up to the diagonal is a part
+pub reach-rows : (n stride i k l : ℕ) → i < n → n ≤ stride → k * stride ≤ l → Reach k stride (i + 1) l
+reach-rows n stride i k l h d b s c = let z = row-in stride c in omega arith
 
 module _ (x : List Float) (inv : List (List Float)) (n k : ℕ) where
   -- ---- X (X'X)^-1 X', of the first i rows
@@ -115,23 +115,23 @@ module _ (n t : ℕ) (m : List Float) where
       table-same (λ j. w ‼ j ⊕ (entry n m t j ⊖ entry n m (t + 1) j)) (λ j. differenceAt (λ s. entry n m s j) n t) n
       (λ j l. rw (lt-ltb (t + 1) n h, e, getD-table behind n j nan l))
 
--- rows t to t + k - 1 of A M, one after another: what the first s of them are
-module _ (n t : ℕ) (m : List Float) where
+-- rows t to t + k - 1 of A M, a stride apart: what the first s of them are
+module _ (stride n t : ℕ) (m : List Float) where
   abbrev pub Loaded : ℕ → List Float → Type 0
-  Loaded k w = (s j : ℕ) → s < k → j < n → w ‼ (s * n + j) ≡ differenceAt (λ r. entry n m r j) n (t + s)
+  Loaded k w = (s j : ℕ) → s < k → j < n → w ‼ (s * stride + j) ≡ differenceAt (λ r. entry n m r j) n (t + s)
 
   pub loaded-none : (w : List Float) → Loaded 0 w
   loaded-none w s j h l = absurd (not-suc-le-zero h)
 
-  pub loaded-more : (s : ℕ) (w ys : List Float) → s * n + n ≤ length w → Loaded s w → ys ≡ table (λ j. differenceAt (λ r. entry n m r j) n (t + s)) n
-      → Loaded (s + 1) (withPart (s * n) (s * n + n) w ys)
-  loaded-more s w ys b old e r j h l =
-      ⊎-elim (λ (d : r < s). part-before w ys {a = s * n} {e = s * n + n} (omega arith) b size (r * n + j) (omega (arith, row-in n d)) ∙ old r j d l)
+  pub loaded-more : (s : ℕ) (w ys : List Float) → n ≤ stride → s * stride + n ≤ length w → Loaded s w → ys ≡ table (λ j. differenceAt (λ r. entry n m r j) n (t + s)) n
+      → Loaded (s + 1) (withPart (s * stride) (s * stride + n) w ys)
+  loaded-more s w ys f b old e r j h l =
+      ⊎-elim (λ (d : r < s). part-before w ys {a = s * stride} {e = s * stride + n} (omega arith) b size (r * stride + j) (omega (arith, row-in stride d)) ∙ old r j d l)
       (λ (d : s ≤ r). let z : r ≡ s = omega arith in
-      rw z (part-inside w ys {a = s * n} {e = s * n + n} (omega arith) b size j (omega arith) ∙ rw e (getD-table (λ j. differenceAt (λ r. entry n m r j) n (t + s)) n j nan l)))
+      rw z (part-inside w ys {a = s * stride} {e = s * stride + n} (omega arith) b size j (omega arith) ∙ rw e (getD-table (λ j. differenceAt (λ r. entry n m r j) n (t + s)) n j nan l)))
       (lt-or-le r s)
     where
-      size : length ys ≡ s * n + n - s * n
+      size : length ys ≡ s * stride + n - s * stride
       size = ap length e ∙ length-table (λ j. differenceAt (λ r. entry n m r j) n (t + s)) n ∙ omega arith
 
 -- ---- M A M, of the first t terms

@@ -5,7 +5,7 @@ use mathlib.Core.Path.{_≡_, refl, ap, sym, _∙_}
 use mathlib.Core.Bool.{cond, _&&_}
 use mathlib.Core.List.{List, _++_}
 use lib.Dec.{leb, eqb}
-use lib.ListN.{length, take, drop, replicate, length-append, take-append-drop}
+use lib.ListN.{length, take, drop, replicate, length-replicate, length-append, take-append-drop}
 use lib.Seq.{take-at, drop-at, drop-drop, length-take-le}
 use lib.Ieee.{Float, nan}
 use Rattle.floats.specs.Words.{_⊗_, _‼_, plusZero, minusZero}
@@ -38,39 +38,39 @@ module _ (p l : List Float) {h : ℕ} (e : length p ≡ h) where
 pub half-lent : (h : ℕ) (l : List Float) → h + h ≤ length l → h ≡ length (take h l)
 half-lent h l b = sym (length-take-le h l (omega arith))
 
--- the first k numbers of a local array are lent
-pub array-lent : (k : ℕ) → k ≤ 8 → length (take k (replicate 8 plusZero)) ≡ k
-array-lent k b = length-take-le k (replicate 8 plusZero) b
+-- the first k numbers of a local array of m are lent
+pub array-lent : (m k : ℕ) → k ≤ m → length (take k (replicate m plusZero)) ≡ k
+array-lent m k b = length-take-le k (replicate m plusZero) (omega (arith, length-replicate m plusZero))
 
-pub array-fits : (k start : ℕ) (l : List Float) → k ≤ 8 → start + k ≤ length l → length (take k (replicate 8 plusZero)) ≤ length (part start (start + k) l)
-array-fits k start l b h = omega (arith, array-lent k b, length-part l {a = start} {e = start + k} (omega arith) h)
+pub array-fits : (m k start : ℕ) (l : List Float) → k ≤ m → start + k ≤ length l → length (take k (replicate m plusZero)) ≤ length (part start (start + k) l)
+array-fits m k start l b h = omega (arith, array-lent m k b, length-part l {a = start} {e = start + k} (omega arith) h)
 
 -- and come back filled
-module _ (k : ℕ) (f : ℕ → Float) (us : List Float) (b : k ≤ 8) (e : us ≡ table f (length (take k (replicate 8 plusZero)))) where
+module _ (m k : ℕ) (f : ℕ → Float) (us : List Float) (b : k ≤ m) (e : us ≡ table f (length (take k (replicate m plusZero)))) where
   is-table : us ≡ table f k
-  is-table = e ∙ ap (table f) (array-lent k b)
+  is-table = e ∙ ap (table f) (array-lent m k b)
 
   size : length us ≡ k
   size = ap length is-table ∙ length-table f k
 
-  pub array-filled : take k (us ++ drop k (replicate 8 plusZero)) ≡ table f k
-  array-filled = front-of us (replicate 8 plusZero) size ∙ is-table
+  pub array-filled : take k (us ++ drop k (replicate m plusZero)) ≡ table f k
+  array-filled = front-of us (replicate m plusZero) size ∙ is-table
 
-  pub array-holds : k ≤ length (us ++ drop k (replicate 8 plusZero))
-  array-holds = omega (arith, length-append us (drop k (replicate 8 plusZero)), size)
+  pub array-holds : k ≤ length (us ++ drop k (replicate m plusZero))
+  array-holds = omega (arith, length-append us (drop k (replicate m plusZero)), size)
 
 -- ---- a block of k terms, from term t on
 
 -- row i of M, from column t on, is what each row of A M is taken times
-module _ (n t k i : ℕ) (l w us : List Float) where
+module _ (stride n t k i : ℕ) (l w us : List Float) where
   pub block-turn : (start : ℕ) → n * n + n * n ≤ length l → t + k ≤ n → i < n → start ≡ n * n + (i * n + t) → us ≡ table (λ j. part start (start + k) l ‼ j) k
-      → square (λ r c. cond (eqb r i && leb c i) (sumFrom (entry n (take (n * n) l) r c) (length us) (λ s. w ‼ (s * n + c) ⊗ us ‼ s)) (entry n (take (n * n) l) r c)) n
-      ≡ square (λ r c. cond (eqb r i && leb c i) (sumFrom (entry n (take (n * n) l) r c) k (λ s. w ‼ (s * n + c) ⊗ entry n (part (n * n) (n * n + n * n) l) i (t + s))) (entry n (take (n * n) l) r c)) n
+      → square (λ r c. cond (eqb r i && leb c i) (sumFrom (entry n (take (n * n) l) r c) (length us) (λ s. w ‼ (s * stride + c) ⊗ us ‼ s)) (entry n (take (n * n) l) r c)) n
+      ≡ square (λ r c. cond (eqb r i && leb c i) (sumFrom (entry n (take (n * n) l) r c) k (λ s. w ‼ (s * stride + c) ⊗ entry n (part (n * n) (n * n + n * n) l) i (t + s))) (entry n (take (n * n) l) r c)) n
   block-turn start b f h p q =
       square-same n _ _
       (λ r c d e. ap (λ y. cond (eqb r i && leb c i) y (entry n (take (n * n) l) r c))
-      (ap (λ z. sumFrom (entry n (take (n * n) l) r c) z (λ s. w ‼ (s * n + c) ⊗ us ‼ s)) (ap length q ∙ length-table _ k)
-      ∙ from-same (entry n (take (n * n) l) r c) k _ _ (λ s o. ap (λ y. w ‼ (s * n + c) ⊗ y) (factor s o))))
+      (ap (λ z. sumFrom (entry n (take (n * n) l) r c) z (λ s. w ‼ (s * stride + c) ⊗ us ‼ s)) (ap length q ∙ length-table _ k)
+      ∙ from-same (entry n (take (n * n) l) r c) k _ _ (λ s o. ap (λ y. w ‼ (s * stride + c) ⊗ y) (factor s o))))
     where
       factor : (s : ℕ) → s < k → us ‼ s ≡ entry n (part (n * n) (n * n + n * n) l) i (t + s)
       factor s o =
@@ -108,15 +108,15 @@ module _ (n t k : ℕ) (l : List Float) where
       sym (take-append-drop (n * n) l)
       ∙ ap (λ p. p ++ drop (n * n) l) (square-of n (entry n first) first (length-take-le (n * n) l (omega arith)) (λ i j h d. refl) ∙ rows-none n _ (entry n first))
 
-  pub block-row : (i : ℕ) (r w : List Float) → i < n → r ≡ blockTo i → Loaded n t second k w
-      → square (λ p c. cond (eqb p i && leb c i) (sumFrom (entry n (take (n * n) r) p c) k (λ s. w ‼ (s * n + c) ⊗ entry n (part (n * n) (n * n + n * n) r) i (t + s))) (entry n (take (n * n) r) p c)) n ++ drop (n * n) r
+  pub block-row : (stride i : ℕ) (r w : List Float) → i < n → r ≡ blockTo i → Loaded stride n t second k w
+      → square (λ p c. cond (eqb p i && leb c i) (sumFrom (entry n (take (n * n) r) p c) k (λ s. w ‼ (s * stride + c) ⊗ entry n (part (n * n) (n * n + n * n) r) i (t + s))) (entry n (take (n * n) r) p c)) n ++ drop (n * n) r
       ≡ blockTo (i + 1)
   unfolding blockTo
-  block-row i r w h e d =
+  block-row stride i r w h e d =
       rw (e, front-of (front i) l (length-front i), back-part (front i) l (length-front i), back-of (front i) l (length-front i))
       (ap (λ p. p ++ drop (n * n) l)
-      (lower-row n (entry n first) blocked i (front i) (λ c y. sumFrom y k (λ s. w ‼ (s * n + c) ⊗ entry n second i (t + s))) h refl
-      (λ j y b. from-same y k _ _ (λ s o. product-swap (w ‼ (s * n + j)) (entry n second i (t + s)) ∙ ap (λ z. entry n second i (t + s) ⊗ z) (d s j o (omega arith))))))
+      (lower-row n (entry n first) blocked i (front i) (λ c y. sumFrom y k (λ s. w ‼ (s * stride + c) ⊗ entry n second i (t + s))) h refl
+      (λ j y b. from-same y k _ _ (λ s o. product-swap (w ‼ (s * stride + j)) (entry n second i (t + s)) ∙ ap (λ z. entry n second i (t + s) ⊗ z) (d s j o (omega arith))))))
 
   pub block-all : blockTo n ≡ square (λ i j. cond (leb j i) (sumFrom (entry n first i j) k (λ s. term n second i j (t + s))) (entry n first i j)) n ++ drop (n * n) l
   unfolding blockTo lower

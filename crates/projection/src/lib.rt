@@ -1,8 +1,8 @@
 // M A M in the matrix room, from the columns and (X'X)^-1.
 //
 // The order of each sum is the Rust's; the order of the work is not. A row of a product of two matrices is worked
-// out as a sum of rows, each times its number, so the inner loop runs along rows; M A M is made of blocks of eight
-// terms, each added to every entry before the next. Each entry still gets its terms first to last.
+// out as a sum of rows, each times its number, so the inner loop runs along rows; M A M is made of blocks of
+// sixteen terms, each added to every entry before the next. Each entry still gets its terms first to last.
 ghost use mathlib.Core.Path.{_≡_};
 ghost use mathlib.Core.Bool.{cond, _&&_};
 ghost use mathlib.Core.List.{_++_};
@@ -51,7 +51,7 @@ fn hat(m: &mut [f64], u: &mut [f64], x: &[f64], inv: &[[f64; 8]; 8], n: usize, k
     rows::fill(m, -0.0);
     for i in 0..n {
         weights(u, x, inv, n, k, i);
-        matrix::add_to_row(m, n, i, x, u);
+        matrix::add_to_row(m, n, i, x, n, u);
     }
 }
 
@@ -80,13 +80,13 @@ fn differences(w: &mut [f64], m: &[f64], n: usize, t: usize)
     }
 }
 
-// Rows t to t + k - 1 of A M, one after another, at the front of `w`.
-fn load_rows(w: &mut [f64], m: &[f64], n: usize, t: usize, k: usize)
-    requires { ⌜ (k * n ≤ length (now w)) × (length (now m) ≡ n * n) × (t + k ≤ n) ⌝ }
-    ensures { λ _. ⌜ ((s j : ℕ) → s < k → j < n → now (w .exit) ‼ (s * n + j) ≡ differenceAt (λ r. entry n (now (m .entry)) r j) n (t + s)) ⌝ }
+// Rows t to t + k - 1 of A M, each `stride` on from the one before in `w`.
+fn load_rows(w: &mut [f64], stride: usize, m: &[f64], n: usize, t: usize, k: usize)
+    requires { ⌜ (n ≤ stride) × (k * stride ≤ length (now w)) × (length (now m) ≡ n * n) × (t + k ≤ n) ⌝ }
+    ensures { λ _. ⌜ ((s j : ℕ) → s < k → j < n → now (w .exit) ‼ (s * stride + j) ≡ differenceAt (λ r. entry n (now (m .entry)) r j) n (t + s)) ⌝ }
 {
     for s in 0..k {
-        let start = s * n;
+        let start = s * stride;
         let end = start + n;
         differences(&mut w[start..end], m, n, t + s);
     }
@@ -94,43 +94,51 @@ fn load_rows(w: &mut [f64], m: &[f64], n: usize, t: usize, k: usize)
 
 // Adds to row i of the first half of the room, up to the diagonal, the k rows in `w`, each times its number of row
 // i of M, from column t on; M is in the second half.
-fn add_block_to_row(room: &mut [f64], w: &[f64], n: usize, t: usize, k: usize, i: usize)
-    requires { ⌜ (n * n + n * n ≤ length (now room)) × (k * n ≤ length (now w)) × (t < n) × (t + k ≤ n) × (k ≤ 8) × (i < n) ⌝ }
-    ensures { λ _. ⌜ now (room .exit) ≡ square (λ r c. cond (eqb r i && leb c i) (sumFrom (entry n (take (n * n) (now (room .entry))) r c) k (λ s. now (w .entry) ‼ (s * n + c) ⊗ entry n (part (n * n) (n * n + n * n) (now (room .entry))) i (t + s))) (entry n (take (n * n) (now (room .entry))) r c)) n ++ drop (n * n) (now (room .entry)) ⌝ }
+fn add_block_to_row(
+    room: &mut [f64],
+    w: &[f64],
+    stride: usize,
+    n: usize,
+    t: usize,
+    k: usize,
+    i: usize,
+)
+    requires { ⌜ (n * n + n * n ≤ length (now room)) × (n ≤ stride) × (k * stride ≤ length (now w)) × (t < n) × (t + k ≤ n) × (k ≤ 16) × (i < n) ⌝ }
+    ensures { λ _. ⌜ now (room .exit) ≡ square (λ r c. cond (eqb r i && leb c i) (sumFrom (entry n (take (n * n) (now (room .entry))) r c) k (λ s. now (w .entry) ‼ (s * stride + c) ⊗ entry n (part (n * n) (n * n + n * n) (now (room .entry))) i (t + s))) (entry n (take (n * n) (now (room .entry))) r c)) n ++ drop (n * n) (now (room .entry)) ⌝ }
 {
     let half = n * n;
     let start = half + rows::matrix::place(n, i, t);
     let end = start + k;
-    let mut u = [0.0f64; 8];
+    let mut u = [0.0f64; 16];
     rows::copy(&mut u[..k], &room[start..end]);
-    matrix::add_to_row(&mut room[..half], n, i, w, &u[..k]);
+    matrix::add_to_row(&mut room[..half], n, i, w, stride, &u[..k]);
 }
 
 // Adds terms t to t + k - 1 of every entry of M A M to the first half of the room, M being in the second; `w` is
-// room for k rows of A M.
-fn add_block(room: &mut [f64], w: &mut [f64], n: usize, t: usize, k: usize)
-    requires { ⌜ (n * n + n * n ≤ length (now room)) × (k * n ≤ length (now w)) × (t < n) × (t + k ≤ n) × (k ≤ 8) ⌝ }
+// room for k rows of A M, `stride` apart.
+fn add_block(room: &mut [f64], w: &mut [f64], stride: usize, n: usize, t: usize, k: usize)
+    requires { ⌜ (n * n + n * n ≤ length (now room)) × (n ≤ stride) × (k * stride ≤ length (now w)) × (t < n) × (t + k ≤ n) × (k ≤ 16) ⌝ }
     ensures { λ _. ⌜ now (room .exit) ≡ square (λ i j. cond (leb j i) (sumFrom (entry n (take (n * n) (now (room .entry))) i j) k (λ s. entry n (part (n * n) (n * n + n * n) (now (room .entry))) i (t + s) ⊗ differenceAt (λ r. entry n (part (n * n) (n * n + n * n) (now (room .entry))) r j) n (t + s))) (entry n (take (n * n) (now (room .entry))) i j)) n ++ drop (n * n) (now (room .entry)) ⌝ }
 {
     let half = n * n;
     let full = half + half;
-    load_rows(w, &room[half..full], n, t, k);
+    load_rows(w, stride, &room[half..full], n, t, k);
     for i in 0..n {
-        add_block_to_row(room, w, n, t, k, i);
+        add_block_to_row(room, w, stride, n, t, k, i);
     }
 }
 
-// How many of the terms that are left come next: eight, or all.
+// How many of the terms that are left come next: sixteen, or all.
 fn next_block(left: usize) -> usize
     requires { ⌜ 0 < left ⌝ }
-    ensures { λ r. ⌜ (0 < r) × (r ≤ 8) × (r ≤ left) ⌝ }
+    ensures { λ r. ⌜ (0 < r) × (r ≤ 16) × (r ≤ left) ⌝ }
 {
-    if left < 8 { left } else { 8 }
+    if left < 16 { left } else { 16 }
 }
 
-// M A M into the first half of the room, from M in the second; `w` is room for eight rows.
-fn products(room: &mut [f64], w: &mut [f64], n: usize)
-    requires { ⌜ (n * n + n * n ≤ length (now room)) × (8 * n ≤ length (now w)) ⌝ }
+// M A M into the first half of the room, from M in the second; `w` is room for sixteen rows, `stride` apart.
+fn products(room: &mut [f64], w: &mut [f64], stride: usize, n: usize)
+    requires { ⌜ (n * n + n * n ≤ length (now room)) × (n ≤ stride) × (16 * stride ≤ length (now w)) ⌝ }
     ensures { λ _. ⌜ now (room .exit) ≡ symmetric (λ i j. sumOf n (λ t. entry n (part (n * n) (n * n + n * n) (now (room .entry))) i t ⊗ differenceAt (λ s. entry n (part (n * n) (n * n + n * n) (now (room .entry))) s j) n t)) n ++ drop (n * n) (now (room .entry)) ⌝ }
 {
     let half = n * n;
@@ -138,27 +146,29 @@ fn products(room: &mut [f64], w: &mut [f64], n: usize)
     let mut t = 0usize;
     while t < n {
         let k = next_block(n - t);
-        add_block(room, w, n, t, k);
+        add_block(room, w, stride, n, t, k);
         t = t + k;
     }
     rows::matrix::mirror(&mut room[..half], n);
 }
 
-// The same, with room of its own for the eight rows: to clear much of it costs a small matrix more than the products do.
+// The same, with room of its own for the sixteen rows: to clear much of it costs a small matrix more than the
+// products do.
 fn products_of_few(room: &mut [f64], n: usize)
     requires { ⌜ (n * n + n * n ≤ length (now room)) × (n ≤ 32) ⌝ }
     ensures { λ _. ⌜ now (room .exit) ≡ symmetric (λ i j. sumOf n (λ t. entry n (part (n * n) (n * n + n * n) (now (room .entry))) i t ⊗ differenceAt (λ s. entry n (part (n * n) (n * n + n * n) (now (room .entry))) s j) n t)) n ++ drop (n * n) (now (room .entry)) ⌝ }
 {
-    let mut w = [0.0f64; 256];
-    products(room, &mut w, n);
+    let mut w = [0.0f64; 512];
+    products(room, &mut w, 32, n);
 }
 
+// And with room for any matrix: the rows stand 256 apart, where `rows::add_terms` takes sixteen terms a pass.
 fn products_of_many(room: &mut [f64], n: usize)
     requires { ⌜ (n * n + n * n ≤ length (now room)) × (n ≤ 256) ⌝ }
     ensures { λ _. ⌜ now (room .exit) ≡ symmetric (λ i j. sumOf n (λ t. entry n (part (n * n) (n * n + n * n) (now (room .entry))) i t ⊗ differenceAt (λ s. entry n (part (n * n) (n * n + n * n) (now (room .entry))) s j) n t)) n ++ drop (n * n) (now (room .entry)) ⌝ }
 {
-    let mut w = [0.0f64; 2048];
-    products(room, &mut w, n);
+    let mut w = [0.0f64; 4096];
+    products(room, &mut w, 256, n);
 }
 
 // M into the second half of the room, then M A M into the first.

@@ -10,14 +10,15 @@ ghost use Rattle.floats.specs.Tables.{table, square};
 ghost use Rattle.floats.specs.Matrix.{entry};
 ghost use Rattle.rows.specs.Terms.{Reach, sumFrom};
 
-// Adds to row i, up to the diagonal, the runs in `xs`, each n on from the one before, each times its number of `w`.
-pub fn add_to_row(a: &mut [f64], n: usize, i: usize, xs: &[f64], w: &[f64])
-    requires { ⌜ (length (now a) ≡ n * n) × (i < n) × (Reach (length (now w)) n (i + 1) (length (now xs))) ⌝ }
-    ensures { λ _. ⌜ now (a .exit) ≡ square (λ r c. cond (eqb r i && leb c i) (sumFrom (entry n (now (a .entry)) r c) (length (now (w .entry))) (λ s. now (xs .entry) ‼ (s * n + c) ⊗ now (w .entry) ‼ s)) (entry n (now (a .entry)) r c)) n ⌝ }
+// Adds to row i, up to the diagonal, the runs in `xs`, each `stride` on from the one before, each times its number of
+// `w`.
+pub fn add_to_row(a: &mut [f64], n: usize, i: usize, xs: &[f64], stride: usize, w: &[f64])
+    requires { ⌜ (length (now a) ≡ n * n) × (i < n) × (Reach (length (now w)) stride (i + 1) (length (now xs))) ⌝ }
+    ensures { λ _. ⌜ now (a .exit) ≡ square (λ r c. cond (eqb r i && leb c i) (sumFrom (entry n (now (a .entry)) r c) (length (now (w .entry))) (λ s. now (xs .entry) ‼ (s * stride + c) ⊗ now (w .entry) ‼ s)) (entry n (now (a .entry)) r c)) n ⌝ }
 {
     let start = rows::matrix::place(n, i, 0);
     let end = start + (i + 1);
-    rows::add_terms(&mut a[start..end], xs, n, w);
+    rows::add_terms(&mut a[start..end], xs, stride, w);
 }
 
 // Every number with the other sign.

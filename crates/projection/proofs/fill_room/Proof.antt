@@ -6,10 +6,10 @@ use Rattle.projection.proofs.fill_room.Statement.{statement}
 use Rattle.projection.proofs.fill_room.Tie as tie
 
 slice-aggregate-residual-maker : tie.Need-slice-aggregate-residual-maker
-slice-aggregate-residual-maker c = sym (array-lent _ (c .before .before .before .before .pre .2))
+slice-aggregate-residual-maker c = sym (array-lent _ _ (c .before .before .before .before .pre .2))
 
 residual-maker-requires : tie.Need-residual-maker-requires
-residual-maker-requires c κs = (search needs, array-lent _ (c .before .before .before .before .pre .2), c .before .before .before .before .pre .1, c .before .before .before .before .pre .2)
+residual-maker-requires c κs = (search needs, array-lent _ _ (c .before .before .before .before .pre .2), c .before .before .before .before .pre .1, c .before .before .before .before .pre .2)
 
 returns : tie.Need-returns
 returns c = room-of (c .before .before .before .before .before .before .before .before .before .before .before .before .before .args .x .now) (c .before .before .before .before .before .before .before .before .before .before .before .before .before .args .inv .now) (c .before .before .before .before .before .before .before .before .before .before .before .before .before .args .n) (c .before .before .before .before .before .before .before .before .before .before .before .before .before .args .k) (c .before .before .before .before .before .before .before .before .before .before .before .before .before .args .room .now) (c .before .before .before .before .before .before .before .before .before .before .before .before .before .pre .0) (c .before .before .before .before .before .before .before .before .residual-maker .last .0) _ (c .before .before .products-of-few .last .0) (c .before .before .before .before .before .before .before .before .residual-maker .ensures) refl (c .before .before .products-of-few .ensures)

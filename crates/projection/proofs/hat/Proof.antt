@@ -20,7 +20,7 @@ loop-holds : tie.Need-loop-holds Inv-loop μ-loop
 loop-holds c = (omega arith, search needs, search needs, c .before .before .fill .ensures ∙ rw (c .before .before .before .before .before .before .before .pre .0) (hat-none (c .before .before .before .before .before .before .before .args .x .now) (c .before .before .before .before .before .before .before .args .inv .now) (c .before .before .before .before .before .before .before .args .n) (c .before .before .before .before .before .before .before .args .k)))
 
 add-to-row-requires : tie.Need-add-to-row-requires Inv-loop μ-loop
-add-to-row-requires c κs = (search needs, search needs, rw (ap length (c .before .before .before .before .weights .ensures) ∙ length-table _ (c .before .before .before .before .before .before .before .before .before .before .before .before .before .before .before .args .k)) (reach-rows (c .before .before .before .before .before .before .before .before .before .before .before .before .before .before .before .args .n) (c .before .before .before .before .before .before .before .loop .i) (c .before .before .before .before .before .before .before .before .before .before .before .before .before .before .before .args .k) (length (c .before .before .before .before .before .before .before .before .before .before .before .before .before .before .before .args .x .now)) (c .before .before .before .before .before .before .loop-test .taken) (search needs)))
+add-to-row-requires c κs = (search needs, search needs, rw (ap length (c .before .before .before .before .weights .ensures) ∙ length-table _ (c .before .before .before .before .before .before .before .before .before .before .before .before .before .before .before .args .k)) (reach-rows (c .before .before .before .before .before .before .before .before .before .before .before .before .before .before .before .args .n) (c .before .before .before .before .before .before .before .before .before .before .before .before .before .before .before .args .n) (c .before .before .before .before .before .before .before .loop .i) (c .before .before .before .before .before .before .before .before .before .before .before .before .before .before .before .args .k) (length (c .before .before .before .before .before .before .before .before .before .before .before .before .before .before .before .args .x .now)) (c .before .before .before .before .before .before .loop-test .taken) (omega arith) (search needs)))
 
 loop-again : tie.Need-loop-again Inv-loop μ-loop
 loop-again c = (omega arith, search needs, search needs, c .before .before .add-to-row .ensures ∙ hat-row (c .before .before .before .before .before .before .before .before .before .before .before .before .before .before .before .before .before .before .args .x .now) (c .before .before .before .before .before .before .before .before .before .before .before .before .before .before .before .before .before .before .args .inv .now) (c .before .before .before .before .before .before .before .before .before .before .before .before .before .before .before .before .before .before .args .n) (c .before .before .before .before .before .before .before .before .before .before .before .before .before .before .before .before .before .before .args .k) (c .before .before .before .before .before .before .before .before .before .before .loop .i) (c .before .before .before .before .before .before .before .before .before .before .loop .m) (c .before .before .before .before .before .before .before .weights .last .0) (c .before .before .before .before .before .before .before .before .before .loop-test .taken) (c .before .before .before .before .before .before .before .before .before .before .loop .inv .3) (c .before .before .before .before .before .before .before .weights .ensures))

@@ -15,10 +15,10 @@ use Rattle.projection.proofs.products.Statement.{statement}
 use Rattle.projection.proofs.products.Tie as tie
 
 abbrev Inv-loop : tie.InvT-loop
-Inv-loop room₀ w₀ n half t₀ room w t = (t ≤ n) × (length room ≡ length room₀) × (length w ≡ length w₀) × (n * n + n * n ≤ length room) × (room ≡ termsTo n room₀ t)
+Inv-loop room₀ w₀ stride n half t₀ room w t = (t ≤ n) × (length room ≡ length room₀) × (length w ≡ length w₀) × (n * n + n * n ≤ length room) × (room ≡ termsTo n room₀ t)
 
 abbrev μ-loop : tie.MeasureT-loop
-μ-loop room₀ w₀ n half t₀ room w t = n - t
+μ-loop room₀ w₀ stride n half t₀ room w t = n - t
 
 slice-aggregate-fill : tie.Need-slice-aggregate-fill Inv-loop μ-loop
 slice-aggregate-fill c = half-lent _ (c .before .before .before .args .room .now) (c .before .before .before .pre .0)
@@ -27,7 +27,7 @@ loop-holds : tie.Need-loop-holds Inv-loop μ-loop
 loop-holds c = let e = c .before .before .fill .ensures ∙ ap (table (λ j. minusZero)) (sym (half-lent _ (c .before .before .before .before .before .before .args .room .now) (c .before .before .before .before .before .before .pre .0))) in (omega arith, refl, refl, rw (length-front (c .before .before .before .before .before .before .args .room .now) (c .before .before .fill .last .0) (c .before .before .before .before .before .before .args .n * c .before .before .before .before .before .before .args .n) (search needs)) (c .before .before .before .before .before .before .pre .0), terms-begin _ _ (c .before .before .before .before .before .before .args .room .now) (ap length e ∙ length-table _ _) e)
 
 add-block-requires : tie.Need-add-block-requires Inv-loop μ-loop
-add-block-requires c κs = let h = mul-le-mul-right (c .before .before .before .before .before .before .before .before .before .before .before .args .n) (c .before .before .next-block .ensures .1) in search needs
+add-block-requires c κs = let h = mul-le-mul-right (c .before .before .before .before .before .before .before .before .before .before .before .args .stride) (c .before .before .next-block .ensures .1) in search needs
 
 loop-again : tie.Need-loop-again Inv-loop μ-loop
 loop-again c = (omega arith, search needs, search needs, omega arith, c .before .before .before .before .add-block .ensures ∙ terms-more _ _ _ _ _ (c .before .before .before .before .before .before .before .before .before .loop .inv .4))

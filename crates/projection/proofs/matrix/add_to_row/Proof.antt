@@ -14,7 +14,7 @@ add-terms-requires : tie.Need-add-terms-requires
 add-terms-requires c κs = rw (row-wide (c .before .before .before .before .before .args .n) (c .before .before .before .before .before .args .i) (c .before .place .result) (c .before .before .before .before .before .args .a .now) (c .before .before .before .before .before .pre .0) (c .before .before .before .before .before .pre .1) (c .before .place .ensures .0)) (c .before .before .before .before .before .pre .2)
 
 returns : tie.Need-returns
-returns c = rw (c .before .before .add-terms .ensures) (row-stored (c .before .before .before .before .before .before .before .before .args .n) (c .before .before .before .before .before .before .before .before .args .i) (c .before .before .before .before .before .before .before .before .args .a .now) (λ j y. sumFrom y (length (c .before .before .before .before .before .before .before .before .args .w .now)) (λ s. c .before .before .before .before .before .before .before .before .args .xs .now ‼ (s * c .before .before .before .before .before .before .before .before .args .n + j) ⊗ c .before .before .before .before .before .before .before .before .args .w .now ‼ s)) _ _ (c .before .before .before .before .before .before .before .before .pre .0) (c .before .before .before .before .before .before .before .before .pre .1) (c .before .before .before .before .place .ensures .0) refl)
+returns c = rw (c .before .before .add-terms .ensures) (row-stored (c .before .before .before .before .before .before .before .before .args .n) (c .before .before .before .before .before .before .before .before .args .i) (c .before .before .before .before .before .before .before .before .args .a .now) (λ j y. sumFrom y (length (c .before .before .before .before .before .before .before .before .args .w .now)) (λ s. c .before .before .before .before .before .before .before .before .args .xs .now ‼ (s * c .before .before .before .before .before .before .before .before .args .stride + j) ⊗ c .before .before .before .before .before .before .before .before .args .w .now ‼ s)) _ _ (c .before .before .before .before .before .before .before .before .pre .0) (c .before .before .before .before .before .before .before .before .pre .1) (c .before .before .before .before .place .ensures .0) refl)
 
 pub add-to-row-spec : {M : Type 1} → statement M
 add-to-row-spec =
