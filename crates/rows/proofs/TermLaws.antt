@@ -70,16 +70,7 @@ eight-stored f p e =
     ∙ ap (λ q. set (set (set q 5 (f 5)) 6 (f 6)) 7 (f 7)) (filled-more f p 4 nan (omega arith)) ∙ ap (λ q. set (set q 6 (f 6)) 7 (f 7)) (filled-more f p 5 nan (omega arith))
     ∙ ap (λ q. set q 7 (f 7)) (filled-more f p 6 nan (omega arith)) ∙ filled-more f p 7 nan (omega arith) ∙ filled-all f p 8 (omega arith) (omega arith) ∙ rw e
 
--- ---- eight terms, and those of k runs from run t on
-
-pub eight-of : (x : Float) (xs w : List Float) (stride j : ℕ)
-    → x ⊕ xs ‼ j ⊗ w ‼ 0 ⊕ xs ‼ (stride + j) ⊗ w ‼ 1 ⊕ xs ‼ (2 * stride + j) ⊗ w ‼ 2 ⊕ xs ‼ (3 * stride + j) ⊗ w ‼ 3 ⊕ xs ‼ (4 * stride + j) ⊗ w ‼ 4 ⊕ xs ‼ (5 * stride + j) ⊗ w ‼ 5 ⊕ xs ‼ (6 * stride + j) ⊗ w ‼ 6 ⊕ xs ‼ (7 * stride + j) ⊗ w ‼ 7
-    ≡ sumFrom x 8 (λ s. xs ‼ (s * stride + j) ⊗ w ‼ s)
-unfolding sumFrom
-eight-of x xs w stride j =
-    let a : 0 * stride + j ≡ j = omega arith in
-    let b : 1 * stride + j ≡ stride + j = omega arith in
-    rw (a, b)
+-- ---- k runs from run t on
 
 -- the last of k + 1 runs from run t on
 pub reach-group : (stride t k n m l : ℕ) → Reach n stride m l → t + (k + 1) ≤ n → t * stride + (k * stride + m) ≤ l
@@ -102,7 +93,7 @@ module _ (stride t k m : ℕ) (xs : List Float) (start : ℕ) (p : start ≡ t *
       (λ j l. from-same (row ‼ j) (k + 1) _ _
       (λ s b. rw (in-part s j b (omega arith), getD-part w {a = t} {e = t + (k + 1)} (omega arith) (omega arith) s nan (omega arith))))
 
--- ---- four terms, and sixteen of runs that stand 256 apart
+-- ---- four terms, four at a time
 
 pub four-of : (x : Float) (xs w : List Float) (at stride s : ℕ) →
     x ⊕ xs ‼ at ⊗ w ‼ s ⊕ xs ‼ (at + stride) ⊗ w ‼ (s + 1) ⊕ xs ‼ (at + 2 * stride) ⊗ w ‼ (s + 2) ⊕ xs ‼ (at + 3 * stride) ⊗ w ‼ (s + 3) ≡ sumFrom x 4 (λ t. xs ‼ (at + t * stride) ⊗ w ‼ (s + t))
@@ -113,17 +104,17 @@ four-of x xs w at stride s =
     let c : s + 0 ≡ s = omega arith in
     rw (a, b, c)
 
-module _ (x : Float) (xs w : List Float) (j : ℕ) where
-  abbrev wide : ℕ → Float
-  wide s = xs ‼ (s * 256 + j) ⊗ w ‼ s
+module _ (x : Float) (xs w : List Float) (stride j : ℕ) where
+  abbrev along : ℕ → Float
+  along s = xs ‼ (s * stride + j) ⊗ w ‼ s
 
-  pub sixteen-of : (a b c r : Float) → a ≡ sumFrom x 4 (λ t. xs ‼ (j + t * 256) ⊗ w ‼ (0 + t)) → b ≡ sumFrom a 4 (λ t. xs ‼ (1024 + j + t * 256) ⊗ w ‼ (4 + t))
-      → c ≡ sumFrom b 4 (λ t. xs ‼ (2048 + j + t * 256) ⊗ w ‼ (8 + t)) → r ≡ sumFrom c 4 (λ t. xs ‼ (3072 + j + t * 256) ⊗ w ‼ (12 + t)) → r ≡ sumFrom x 16 wide
-  sixteen-of a b c r p q m n =
-      let four = p ∙ from-same x 4 _ wide (λ t h. let e : j + t * 256 ≡ t * 256 + j = omega arith in rw (e, zero-add)) in
-      let eight = q ∙ rw four (from-same _ 4 _ _ (λ t h. let e : 1024 + j + t * 256 ≡ (4 + t) * 256 + j = omega arith in rw e)) ∙ from-group x wide 4 4 in
-      let twelve = m ∙ rw eight (from-same _ 4 _ _ (λ t h. let e : 2048 + j + t * 256 ≡ (8 + t) * 256 + j = omega arith in rw e)) ∙ from-group x wide 8 4 in
-      n ∙ rw twelve (from-same _ 4 _ _ (λ t h. let e : 3072 + j + t * 256 ≡ (12 + t) * 256 + j = omega arith in rw e)) ∙ from-group x wide 12 4
+  -- the first four, and four more after k
+  pub four-first : (a : Float) → a ≡ sumFrom x 4 (λ t. xs ‼ (j + t * stride) ⊗ w ‼ (0 + t)) → a ≡ sumFrom x 4 along
+  four-first a p = p ∙ from-same x 4 _ along (λ t h. let e : j + t * stride ≡ t * stride + j = omega arith in rw (e, zero-add))
+
+  pub four-more : (k at : ℕ) (a b : Float) → at ≡ k * stride + j → a ≡ sumFrom x k along → b ≡ sumFrom a 4 (λ t. xs ‼ (at + t * stride) ⊗ w ‼ (k + t)) → b ≡ sumFrom x (k + 4) along
+  four-more k at a b p q r =
+      r ∙ rw q (from-same (sumFrom x k along) 4 _ _ (λ t h. let y = add-mul k t stride in let e : at + t * stride ≡ (k + t) * stride + j = omega arith in rw e)) ∙ from-group x along k 4
 
 -- ---- the terms of a row of sums, group by group
 

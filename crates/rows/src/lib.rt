@@ -42,31 +42,29 @@ fn add_one(row: &mut [f64], xs: &[f64], w: f64)
     }
 }
 
+// x plus four terms: number `at` of `xs` times number s of `w`, and so on, `stride` on in the one and 1 in the other.
+// They are read in an order in which the compiler finds no address to work out in a loop.
+fn four_terms(x: f64, xs: &[f64], at: usize, stride: usize, w: &[f64], s: usize) -> f64
+    requires { ⌜ (at + 3 * stride < length (now xs)) × (s + 4 ≤ length (now w)) ⌝ }
+    ensures { λ r. ⌜ r ≡ sumFrom x 4 (λ t. now (xs .entry) ‼ (at + t * stride) ⊗ now (w .entry) ‼ (s + t)) ⌝ }
+{
+    let a = xs[at];
+    let c = xs[at + 2 * stride];
+    let b = xs[at + stride];
+    let d = xs[at + 3 * stride];
+    x + a * w[s] + b * w[s + 1] + c * w[s + 2] + d * w[s + 3]
+}
+
 // Adds eight multiples, one after another, of the runs in `xs`, each `stride` on from the one before. Each number of
-// `row` is read and written once for the eight. The runs are read in an order in which the compiler finds no address to
-// work out in the loop.
+// `row` is read and written once for the eight.
 fn add_eight(row: &mut [f64], xs: &[f64], stride: usize, w: &[f64])
     requires { ⌜ (7 * stride + length (now row) ≤ length (now xs)) × (8 ≤ length (now w)) ⌝ }
     ensures { λ _. ⌜ now (row .exit) ≡ table (λ j. sumFrom (now (row .entry) ‼ j) 8 (λ s. now (xs .entry) ‼ (s * stride + j) ⊗ now (w .entry) ‼ s)) (length (now (row .entry))) ⌝ }
 {
+    let fifth = 4 * stride;
     for j in 0..row.len() {
-        let a = xs[j];
-        let e = xs[4 * stride + j];
-        let c = xs[2 * stride + j];
-        let g = xs[6 * stride + j];
-        let b = xs[stride + j];
-        let f = xs[5 * stride + j];
-        let d = xs[3 * stride + j];
-        let h = xs[7 * stride + j];
-        row[j] = row[j]
-            + a * w[0]
-            + b * w[1]
-            + c * w[2]
-            + d * w[3]
-            + e * w[4]
-            + f * w[5]
-            + g * w[6]
-            + h * w[7];
+        let a = four_terms(row[j], xs, j, stride, w, 0);
+        row[j] = four_terms(a, xs, fifth + j, stride, w, 4);
     }
 }
 
@@ -79,18 +77,6 @@ fn add_next_eight(row: &mut [f64], xs: &[f64], stride: usize, w: &[f64], t: usiz
     let end = start + (7 * stride + row.len());
     let next = t + 8;
     add_eight(row, &xs[start..end], stride, &w[t..next]);
-}
-
-// x plus four terms: number `at` of `xs` times number s of `w`, and so on, `stride` on in the one and 1 in the other.
-fn four_terms(x: f64, xs: &[f64], at: usize, stride: usize, w: &[f64], s: usize) -> f64
-    requires { ⌜ (at + 3 * stride < length (now xs)) × (s + 4 ≤ length (now w)) ⌝ }
-    ensures { λ r. ⌜ r ≡ sumFrom x 4 (λ t. now (xs .entry) ‼ (at + t * stride) ⊗ now (w .entry) ‼ (s + t)) ⌝ }
-{
-    x
-        + xs[at] * w[s]
-        + xs[at + stride] * w[s + 1]
-        + xs[at + 2 * stride] * w[s + 2]
-        + xs[at + 3 * stride] * w[s + 3]
 }
 
 // Adds sixteen multiples, one after another, of runs that stand 256 apart. With the stride a constant the compiler has

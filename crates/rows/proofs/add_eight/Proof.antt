@@ -6,19 +6,19 @@ use lib.Ieee.{nan}
 use Rattle.floats.specs.Words.{_⊗_, _‼_}
 use Rattle.floats.proofs.RowLaws.{filled, filled-none, filled-here, filled-more, filled-all}
 use Rattle.rows.specs.Terms.{sumFrom}
-use Rattle.rows.proofs.TermLaws.{eight-of}
+use Rattle.rows.proofs.TermLaws.{four-first, four-more}
 use borrow.Author.Needs.{needs}
 use Rattle.rows.proofs.add_eight.Statement.{statement}
 use Rattle.rows.proofs.add_eight.Tie as tie
 
 abbrev Inv-loop : tie.InvT-loop
-Inv-loop row₀ xs stride w j₀ j-end row j = (j ≤ length row₀) × (length row ≡ length row₀) × (j-end ≡ length row₀) × (row ≡ filled (λ j. sumFrom (row₀ ‼ j) 8 (λ s. xs ‼ (s * stride + j) ⊗ w ‼ s)) j row₀)
+Inv-loop row₀ xs stride w fifth j₀ j-end row j = (j ≤ length row₀) × (length row ≡ length row₀) × (j-end ≡ length row₀) × (row ≡ filled (λ j. sumFrom (row₀ ‼ j) 8 (λ s. xs ‼ (s * stride + j) ⊗ w ‼ s)) j row₀) × (fifth ≡ 4 * stride)
 
 abbrev μ-loop : tie.MeasureT-loop
-μ-loop row₀ xs stride w j₀ j-end row j = length row₀ - j
+μ-loop row₀ xs stride w fifth j₀ j-end row j = length row₀ - j
 
 loop-again : tie.Need-loop-again Inv-loop μ-loop
-loop-again c = let h : c .before .before .before .before .before .before .before .before .before .before .before .before .before .before .before .before .before .before .loop .j < length (c .before .before .before .before .before .before .before .before .before .before .before .before .before .before .before .before .before .before .before .args .row .now) = search needs in (omega arith, simp length-set (omega arith), search needs, rw (c .before .before .before .before .before .before .before .before .before .before .before .before .before .before .before .before .before .before .loop .inv .3, filled-here _ _ _ nan h, eight-of (c .before .before .before .before .before .before .before .before .before .before .before .before .before .before .before .before .before .before .before .args .row .now ‼ c .before .before .before .before .before .before .before .before .before .before .before .before .before .before .before .before .before .before .loop .j) (c .before .before .before .before .before .before .before .before .before .before .before .before .before .before .before .before .before .before .before .args .xs .now) (c .before .before .before .before .before .before .before .before .before .before .before .before .before .before .before .before .before .before .before .args .w .now) (c .before .before .before .before .before .before .before .before .before .before .before .before .before .before .before .before .before .before .before .args .stride) (c .before .before .before .before .before .before .before .before .before .before .before .before .before .before .before .before .before .before .loop .j)) (filled-more _ _ _ nan h))
+loop-again c = let h : c .before .before .before .before .loop .j < length (c .before .before .before .before .before .before .before .before .args .row .now) = search needs in (omega arith, simp length-set (omega arith), search needs, rw (four-more (c .before .before .before .before .before .before .before .before .args .row .now ‼ c .before .before .before .before .loop .j) (c .before .before .before .before .before .before .before .before .args .xs .now) (c .before .before .before .before .before .before .before .before .args .w .now) (c .before .before .before .before .before .before .before .before .args .stride) (c .before .before .before .before .loop .j) 4 _ _ _ (omega arith) (four-first (c .before .before .before .before .before .before .before .before .args .row .now ‼ c .before .before .before .before .loop .j) (c .before .before .before .before .before .before .before .before .args .xs .now) (c .before .before .before .before .before .before .before .before .args .w .now) (c .before .before .before .before .before .before .before .before .args .stride) (c .before .before .before .before .loop .j) _ (c .before .four-terms .ensures ∙ rw (c .before .before .before .before .loop .inv .3, filled-here _ _ _ nan h))) (c .four-terms2 .ensures), c .before .before .before .before .loop .inv .3) (filled-more _ _ _ nan h), search needs)
 
 returns : tie.Need-returns Inv-loop μ-loop
 returns c = c .before .loop .inv .3 ∙ filled-all _ _ _ (search needs) (search needs)
@@ -26,13 +26,7 @@ returns c = c .before .loop .inv .3 ∙ filled-all _ _ _ (search needs) (search 
 pub add-eight-spec : {M : Type 1} → statement M
 add-eight-spec =
     tie.close
-    (tie.spec Inv-loop μ-loop (λ c. (omega arith, refl, refl, filled-none _ _)) (λ c. search needs)
-    (λ c. search needs) (λ c. search needs) (λ c. search needs) (λ c. search needs) (λ c. search needs)
-    (λ c. search needs) (λ c. search needs) (λ c. search needs) (λ c. search needs) (λ c. search needs)
-    (λ c. search needs) (λ c. search needs) (λ c. search needs) (λ c. search needs) (λ c. search needs)
-    (λ c. search needs) (λ c. search needs) (λ c. search needs) (λ c. search needs) (λ c. search needs)
-    (λ c. search needs) (λ c. search needs) (λ c. search needs) (λ c. search needs) (λ c. search needs)
-    (λ c. search needs) (λ c. search needs) (λ c. search needs) (λ c. search needs) (λ c. search needs)
-    (λ c. search needs) (λ c. search needs) (λ c. search needs) (λ c. search needs) (λ c. search needs)
-    (λ c. search needs) (λ c. search needs) (λ c. search needs) (λ c. search needs) (λ c. search needs)
-    (λ c. search needs) (λ c. search needs) loop-again (λ c. search needs) returns)
+    (tie.spec Inv-loop μ-loop (λ c. search needs) (λ c. (omega arith, refl, refl, filled-none _ _, refl))
+    (λ c. search needs) (λ c. search needs) (λ c κs. search needs) (λ c. search needs) (λ c κs. search needs)
+    (λ c. search needs) (λ c. search needs) (λ c. search needs) (λ c. search needs) loop-again
+    (λ c. search needs) returns)
