@@ -128,8 +128,8 @@ pub fn add_terms(row: &mut [f64], xs: &[f64], stride: usize, w: &[f64])
     }
 }
 
-// The sums of the products of eight runs in `xs`, each `stride` on from the one before, with `v`. They are read in the
-// order of `add_eight`.
+// The sums of the products of eight runs in `xs`, each `stride` on from the one before, with `v`. They are read in an
+// order as that of `four_terms`.
 fn eight_dots(p: &mut [f64], xs: &[f64], stride: usize, v: &[f64])
     requires { ⌜ (length (now p) ≡ 8) × (7 * stride + length (now v) ≤ length (now xs)) ⌝ }
     ensures { λ _. ⌜ now (p .exit) ≡ table (λ s. sumOf (length (now (v .entry))) (λ j. now (xs .entry) ‼ (s * stride + j) ⊗ now (v .entry) ‼ j)) 8 ⌝ }
