@@ -1,5 +1,5 @@
--- Stores of single entries: 1 added along the diagonal, and the entries below the diagonal copied above it, one row's after another's. The one idea: an entry that is read was
--- not stored before, and each store makes one entry right. Assumes nothing.
+-- The entries below the diagonal copied above it, one row's after another's. The one idea: an entry that is read was not stored before, and each store makes one
+-- entry right. Assumes nothing.
 use Prim.Native.Nat.{ℕ, _+_, _*_, _≤_, _<_, min, max}
 use native.Mathlib.Nat.{max-eq-left, max-eq-right, min-eq-left, min-eq-right}
 use native.Mathlib.Omega.{arith}
@@ -7,39 +7,15 @@ use native.Mathlib.Decide.{ℕ-discrete}
 use mathlib.Core.Path.{_≡_, refl, ap, sym, _∙_}
 use mathlib.Core.Logic.{⊎-elim}
 use mathlib.Core.Bool.{Bool, true, false, cond, _&&_}
-use mathlib.Core.List.{List}
 use lib.Dec.{ltb, eqb}
 use lib.ListN.{set}
 use lib.Ieee.{Float}
 use borrow.Author.Tests.{lt-ltb, le-ltb, eq-eqb, ne-eqb}
-use Rattle.floats.specs.Words.{_⊕_, _‼_, one}
 use Rattle.floats.specs.Tables.{square, symmetric}
 use Rattle.floats.specs.Matrix.{entry}
-use Rattle.floats.proofs.MatrixLaws.{lt-or-le, rowsTo, row-old, store-square, square-same, entry-square}
+use Rattle.floats.proofs.MatrixLaws.{lt-or-le, store-square, square-same, entry-square}
 
 module _ (n : ℕ) (old : ℕ → ℕ → Float) where
-  -- ---- 1 added along the diagonal
-  unfoldable pub identified : ℕ → ℕ → Float
-  identified i j = cond (eqb i j) (one ⊕ old i j) (old i j)
-
-  pub identity-row : (i : ℕ) → i < n → set (rowsTo n identified old i) (i * n + i) (one ⊕ entry n (rowsTo n identified old i) i i) ≡ rowsTo n identified old (i + 1)
-  unfolding rowsTo identified
-  identity-row i h =
-      rw (row-old n identified old i i h h) (ap (set (rowsTo n identified old i) (i * n + i)) stored
-      ∙ store-square n (λ r c. cond (ltb r i) (identified r c) (old r c)) (λ r c. cond (ltb r (i + 1)) (identified r c) (old r c)) i i h h others)
-    where
-      stored : one ⊕ old i i ≡ cond (ltb i (i + 1)) (identified i i) (old i i)
-      stored = rw (lt-ltb i (i + 1) (omega arith), eq-eqb i i refl)
-
-      others : (r c : ℕ) → r < n → c < n → ((r ≡ i) × (c ≡ i) → ⊥) → cond (ltb r i) (identified r c) (old r c) ≡ cond (ltb r (i + 1)) (identified r c) (old r c)
-      others r c p q e =
-          ⊎-elim (λ (b : r < i). rw (lt-ltb r i b, lt-ltb r (i + 1) (omega arith)))
-          (λ (b : i ≤ r). ⊎-elim
-          (λ (d : r < i + 1). let z : r ≡ i = omega arith in rw (le-ltb r i b, lt-ltb r (i + 1) d, ne-eqb r c (λ y. e (z, sym y ∙ z))))
-          (λ (d : i + 1 ≤ r). rw (le-ltb r i b, le-ltb r (i + 1) d))
-          (lt-or-le r (i + 1)))
-          (lt-or-le r i)
-
   -- ---- the entries of row i, each copied to its mirror
   unfoldable pub copied : ℕ → ℕ → ℕ → ℕ → Float
   copied i j r c = cond (eqb c i && ltb r j) (old i r) (old r c)
