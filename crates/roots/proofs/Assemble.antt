@@ -7,8 +7,9 @@ use native.Mathlib.Omega.{arith}
 use lib.Dec.{lit<, lit≤}
 use lib.Pow.{pow-add, pow-pos}
 use lib.Ieee.{binary64, nearest, ofBits}
-use Rattle.roots.specs.Root.{IsRoot, RootBits}
+use Rattle.roots.specs.Root.{IsRoot, NearRoot, RootBits}
 use Rattle.roots.proofs.Squares.{side, sq-le, root-ge, root-lt}
+use Rattle.roots.proofs.Division.{Doubled, doubled}
 use Rattle.roots.proofs.Ladder.{unitsOf, place}
 use Rattle.roots.proofs.Rounding.{Ordered, ordered, middle, nearest-far, root-rung}
 
@@ -89,3 +90,34 @@ pub joined : (m s q : ℕ) → 2 ^ 52 ≤ m → m < 2 ^ 53 → 54 ≤ s → s �
 joined m s q a b c e r =
     let k : s / 2 - 26 ≡ suc (s / 2 - 27) = omega arith in
     rw (parts m s c, k) (assembled (m * (1 + s % 2)) (s / 2 - 27) q (omega (arith, wide m s)) (omega (arith, wide m s)) r (omega arith))
+
+-- ---- the same where w has the digits below the leading one and, above them, s - 52: d is m or twice m, by w's 54 last digits
+pub shared : (w d : ℕ) → ((w % 2 ^ 53 < 2 ^ 52) × (d ≡ w % 2 ^ 53 + 2 ^ 52)) ⊎ ((2 ^ 52 ≤ w % 2 ^ 53) × (d ≡ w % 2 ^ 53 + w % 2 ^ 53)) → d ≡ (2 ^ 52 + w % 2 ^ 52) * (1 + (w / 2 ^ 52 + 52) % 2)
+shared w d h = elim h [
+  | inl e ↦ let z : (w / 2 ^ 52 + 52) % 2 ≡ 0 = omega (arith, e .0) in rw z (omega (arith, e .0, e .1))
+  | inr e ↦ let z : (w / 2 ^ 52 + 52) % 2 ≡ 1 = omega (arith, e .0) in rw z (omega (arith, e .0, e .1))
+]
+
+module _ (w d c : ℕ) (from : 2 ^ 53 ≤ w) (below : w < 3068 * 2 ^ 52) (e : d ≡ (2 ^ 52 + w % 2 ^ 52) * (1 + (w / 2 ^ 52 + 52) % 2)) (near : NearRoot (d * 2 ^ 52) c) where
+  abbrev m : ℕ
+  m = 2 ^ 52 + w % 2 ^ 52
+
+  abbrev s : ℕ
+  s = w / 2 ^ 52 + 52
+
+  twice : Doubled (d * 2 ^ 52) c
+  twice = doubled (d * 2 ^ 52) c (omega (arith, e, wide m s)) near
+
+  root : IsRoot (d * 2 ^ 54) (twice .digits)
+  root = let f : 4 * (d * 2 ^ 52) ≡ d * 2 ^ 54 = omega arith in rw f at (twice .root)
+
+  pub c-below : c ≤ 2 ^ 53
+  c-below = omega (arith, twice .half, q-below d (twice .digits) (omega (arith, e, wide m s)) root)
+
+  pub written : RootBits (m * 2 ^ s) ((w - w % 2 ^ 53) / 2 + c)
+  written =
+      let q = twice .digits in
+      let a : (w - w % 2 ^ 53) / 2 ≡ w / 2 ^ 53 * 2 ^ 52 = omega arith in
+      let b : s / 2 - 26 ≡ w / 2 ^ 53 = omega arith in
+      let f : (w - w % 2 ^ 53) / 2 + c ≡ (s / 2 - 26) * 2 ^ 52 + (q + 1) / 2 = omega (arith, a, b, twice .half) in
+      rw f (joined m s q (omega arith) (omega arith) (omega arith) (omega arith) (rw (← e) root))

@@ -1,20 +1,23 @@
--- `sqrtOf` at each kind of f64 that `sqrt` tells apart. Assumes nothing.
+-- `sqrtOf` at each kind of f64 that `sqrt` tells apart, and what the tests of `hypot` say. Assumes nothing.
 use mathlib.Core.Path.{_≡_, refl, sym, ap, _∙_}
 use Prim.Native.Nat.{ℕ, zero, suc, _+_, _-_, _*_, _/_, _%_, _^_, _≤_, _<_}
-use native.Mathlib.Nat.{zero-lt-suc, lt-of-le-of-lt, lt-of-not-le, not-le-of-lt, mod-eq-of-lt, mul-assoc, mul-le-mul-right, mul-lt-mul-of-pos-right, pow-succ', mul-pos, mul-div-cancel}
+use native.Mathlib.Nat.{zero-lt-suc, lt-of-le-of-lt, lt-of-not-le, not-le-of-lt, le-trans, le-antisymm, le-of-mul-le-mul-right, mod-eq-of-lt, mul-assoc, mul-le-mul-right, mul-lt-mul-of-pos-right, pow-succ', mul-pos, mul-div-cancel}
 use native.Mathlib.Omega.{arith}
-use mathlib.Core.Bool.{true, false, not, true≢false, false≢true}
-use lib.Dec.{T}
+use mathlib.Core.Bool.{Bool, true, false, not, _||_, _&&_, true≢false, false≢true}
+use mathlib.Core.Logic.{inl, inr}
+use lib.Dec.{T, ltb, eqb, lit≤}
 use lib.Pow.{pow-add, pow-mono, pow-pos}
 use lib.Count.{leadingZeros, leading-top}
-use borrow.Author.Tests.{ltb-true, ltb-false}
-use lib.Ieee.{Float, nan, inf, fin, binary64, up, down, lt, div, fits, isNan, ofBits, toBits}
+use borrow.Author.Tests.{ltb-true, ltb-false, lt-ltb, le-ltb, eqb-true, eq-eqb}
+use lib.Ieee.{Float, nan, inf, fin, binary64, up, down, lt, eq, le, div, fits, isNan, ofBits, toBits}
 use lib.Ieee.Fits.{up-pos, down-pos}
 use lib.Ieee.Bits.{ofBits-toBits}
 use lib.Ieee.Exact.{HasValue}
 use Rattle.floats.specs.Words.{plusZero}
 use Rattle.floats.specs.Signs.{minus}
 use Rattle.roots.specs.Root.{sqrtOf, rootOf}
+use Rattle.roots.specs.Hypot.{least}
+use Rattle.roots.proofs.Squares.{side}
 use Rattle.roots.proofs.Ladder.{top, unitsOf, rising, below-top, own-value}
 
 pub negative : (x : Float) → lt x plusZero ≡ true → div binary64 plusZero plusZero ≡ sqrtOf x
@@ -63,6 +66,10 @@ sqrt-units (fin s zero e) a p h = absurd (none (up e) (2 ^ 1074) (a * down e) (m
 sqrt-units (fin true (suc m) e) a p h = absurd (true≢false (h .0))
 sqrt-units (fin false (suc m) e) a p h = ap (λ (n : ℕ). rootOf (n * 2 ^ 1074)) (ap (λ (n : ℕ). n / down e) (h .1) ∙ mul-div-cancel a (down-pos e))
 
+-- x has the pattern b, above 0's and below infinity's
+pub root-at : (x : Float) → T (fits binary64 x) → let b = toBits binary64 x in 0 < b → b < top → sqrtOf x ≡ rootOf (unitsOf b * 2 ^ 1074)
+root-at x F s u = let b = toBits binary64 x in sqrt-units x (unitsOf b) (rising 0 b s) (own-value x F u)
+
 -- x is finite and above zero, with the pattern b
 pub record Positive (x : Float) (b : ℕ) : Type 0 where
   pub some : 0 < b
@@ -87,14 +94,80 @@ positive x F h n =
     let b = toBits binary64 x in
     let u = bounded x F h n in
     let s : 0 < b = some b (rw (ofBits-toBits binary64 x F) h) in
-    record { some = s; below = u; root = sqrt-units x (unitsOf b) (rising 0 b s) (own-value x F u) }
+    record { some = s; below = u; root = root-at x F s u }
 
--- ---- its units with 53 digits, the leading one as the field has it, or shifted up to where a field would have it
-pub normal : (b : ℕ) → (b / 2 ^ 52 ≡ 0 → ⊥) → (2 ^ 52 + b % 2 ^ 52) * 2 ^ (b / 2 ^ 52 + 1073) ≡ unitsOf b * 2 ^ 1074
+-- a pattern below infinity's is a number's
+pub finite : (x : Float) → toBits binary64 x < top → T (not (isNan x))
+unfolding toBits isNan
+finite nan h = absurd (omega arith)
+finite (inf s) h = tt
+finite (fin s m e) h = tt
+
+-- ---- what `hypot` tests: that x is at least 2 ^ -900, and below infinity. Where x is finite, the first is a comparison of two whole numbers
+at-least : (a b : ℕ) → ltb b a || (eqb b a && (true || eqb b 0)) ≡ true → b ≤ a
+at-least a b h = elim (side b a) [ inl l ↦ omega arith | inr g ↦ omega (arith, same (eqb b a) (eqb-true b a) (rw (le-ltb b a g) at h)) ]
+  where
+    same : (t : Bool) → (t ≡ true → b ≡ a) → false || (t && (true || eqb b 0)) ≡ true → b ≡ a
+    same true f h = f refl
+    same false f h = absurd (false≢true h)
+
+none : (p d : ℕ) → 0 < d → p + 1 * 1 * d ≤ 0 → ⊥
+none p d h k = omega arith
+
+-- what is at least 2 ^ -900 is not below it
+pub not-less : (x : Float) → le least x ≡ true → lt x least ≡ false
+unfolding le lt eq ofBits
+not-less nan h = refl
+not-less (inf true) h = absurd (false≢true h)
+not-less (inf false) h = refl
+not-less (fin true m e) h = absurd (zero (eqb (1 * 1 * down e) (m * up e * 2 ^ 900)) (eqb (1 * 1 * down e) 0) (λ z. none 0 (down e) (down-pos e) (omega (arith, eqb-true (1 * 1 * down e) 0 z))) h)
+  where
+    zero : (s t : Bool) → (t ≡ true → ⊥) → s && t ≡ true → ⊥
+    zero true true f h = f refl
+    zero true false f h = false≢true h
+    zero false t f h = false≢true h
+not-less (fin false m e) h = le-ltb (m * up e * 2 ^ 900) (1 * 1 * down e) (at-least (m * up e * 2 ^ 900) (1 * 1 * down e) h)
+
+-- what is neither at least 2 ^ -900 nor below it is no number
+pub unordered : (x : Float) → le least x ≡ false → lt x least ≡ false → lt x (inf false) ≡ false
+unfolding le lt eq ofBits
+unordered nan h k = refl
+unordered (inf true) h k = absurd (true≢false k)
+unordered (inf false) h k = absurd (true≢false h)
+unordered (fin true m e) h k = absurd (none (m * up e * 2 ^ 900) (down e) (down-pos e) (ltb-false 0 (m * up e * 2 ^ 900 + 1 * 1 * down e) k))
+unordered (fin false m e) h k = absurd (neither (m * up e * 2 ^ 900) (1 * 1 * down e) h k)
+  where
+    neither : (a b : ℕ) → ltb b a || (eqb b a && (true || eqb b 0)) ≡ false → ltb a b ≡ false → ⊥
+    neither a b h k = elim (side b a) [
+      | inl l ↦ true≢false (rw (lt-ltb b a l) at h)
+      | inr g ↦ let l : b ≡ a = le-antisymm (ltb-false a b k) g in true≢false (rw (le-ltb b a g, eq-eqb b a l) at h)
+    ]
+
+-- u / d is b / (v * w), and at least 1 / v: so b is at least w
+reaches : (u d v w b : ℕ) → 0 < d → 1 * 1 * d ≤ u * v → u * (v * w) ≡ b * d → w ≤ b
+reaches u d v w b p h e = le-of-mul-le-mul-right (omega (arith, e, mul-le-mul-right w h)) p
+
+-- what is not below 2 ^ -900, and below infinity, is finite and not subnormal
+pub ordinary : (x : Float) → T (fits binary64 x) → lt x least ≡ false → lt x (inf false) ≡ true → (2 ^ 52 ≤ toBits binary64 x) × (toBits binary64 x < top)
+unfolding lt ofBits minus
+ordinary nan F h k = absurd (false≢true k)
+ordinary (inf true) F h k = absurd (true≢false h)
+ordinary (inf false) F h k = absurd (false≢true k)
+ordinary (fin true m e) F h k = absurd (none (m * up e * 2 ^ 900) (down e) (down-pos e) (ltb-false 0 (m * up e * 2 ^ 900 + 1 * 1 * down e) h))
+ordinary (fin false m e) F h k =
+    let b = toBits binary64 (fin false m e) in
+    let u = below-top (fin false m e) F tt refl in
+    let l : 1 * 1 * down e ≤ m * up e * 2 ^ 900 = ltb-false (m * up e * 2 ^ 900) (1 * 1 * down e) h in
+    let n : 2 ^ 174 ≤ unitsOf b = reaches (m * up e) (down e) (2 ^ 900) (2 ^ 174) (unitsOf b) (down-pos e) l (own-value (fin false m e) F u .1) in
+    (elim (side b (2 ^ 52)) [ inl g ↦ absurd (not-le-of-lt (rising b (2 ^ 52) g) (le-trans (lit≤ tt) n)) | inr g ↦ g ], u)
+
+-- ---- its units with 53 digits, the leading one as the field has it, or shifted up to where a field would have it: as `root_bits` has them
+pub normal : (b : ℕ) → 2 ^ 52 ≤ b → let w = b + 1021 * 2 ^ 52 in (2 ^ 52 + w % 2 ^ 52) * 2 ^ (w / 2 ^ 52 + 52) ≡ unitsOf b * 2 ^ 1074
 normal b n =
+    let w = b + 1021 * 2 ^ 52 in
     let k = b / 2 ^ 52 - 1 in
-    let e : b / 2 ^ 52 + 1073 ≡ k + 1074 = omega arith in
-    let q : 2 ^ 52 + b % 2 ^ 52 ≡ b - k * 2 ^ 52 = omega arith in
+    let e : w / 2 ^ 52 + 52 ≡ k + 1074 = omega arith in
+    let q : 2 ^ 52 + w % 2 ^ 52 ≡ b - k * 2 ^ 52 = omega arith in
     rw (e, q, pow-add 2 k 1074) (sym (mul-assoc (b - k * 2 ^ 52) (2 ^ k) (2 ^ 1074)))
 
 -- t, shifted by z so that its highest digit stands at bit 52
@@ -118,8 +191,11 @@ shift t p u =
     let same : t * 2 ^ z % 2 ^ 64 ≡ t * 2 ^ z = mod-eq-of-lt (omega arith) in
     record { zeros = omega (arith, top .1); most = omega arith; from = omega arith; below = omega arith; same = same }
 
-pub subnormal : (b z : ℕ) → b / 2 ^ 52 ≡ 0 → Shift (b % 2 ^ 52) z → b % 2 ^ 52 * 2 ^ z % 2 ^ 64 * 2 ^ (1074 - z) ≡ unitsOf b * 2 ^ 1074
+pub subnormal : (b z : ℕ) → b / 2 ^ 52 ≡ 0 → Shift b z → let w = b * 2 ^ z % 2 ^ 64 + (1021 - z) * 2 ^ 52 in (2 ^ 52 + w % 2 ^ 52) * 2 ^ (w / 2 ^ 52 + 52) ≡ unitsOf b * 2 ^ 1074
 subnormal b z e s =
-    let w : z + (1074 - z) ≡ 1074 = omega (arith, s .most) in
-    let q : b % 2 ^ 52 ≡ (b - 0) * 1 = omega arith in
-    rw (s .same, mul-assoc (b % 2 ^ 52) (2 ^ z) (2 ^ (1074 - z)), ← pow-add 2 z (1074 - z), w, e, q)
+    let w = b * 2 ^ z % 2 ^ 64 + (1021 - z) * 2 ^ 52 in
+    let i : w / 2 ^ 52 + 52 ≡ 1074 - z = omega (arith, s .most, s .from, s .below) in
+    let d : 2 ^ 52 + w % 2 ^ 52 ≡ b * 2 ^ z = omega (arith, s .most, s .from, s .below, s .same) in
+    let l : z + (1074 - z) ≡ 1074 = omega (arith, s .most) in
+    let q : b ≡ (b - 0) * 1 = omega arith in
+    rw (i, d, mul-assoc b (2 ^ z) (2 ^ (1074 - z)), ← pow-add 2 z (1074 - z), l, e) (ap (λ (x : ℕ). x * 2 ^ 1074) q)

@@ -1,5 +1,6 @@
 pub mod Squares
-pub mod Halves
+pub mod Division
+pub mod Guess
 pub mod Ladder
 pub mod Rounding
 pub mod Assemble

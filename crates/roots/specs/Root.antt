@@ -43,6 +43,11 @@ sqrtOf (fin s zero e) = fin s zero e
 sqrtOf (fin false (suc m) e) = rootOf (suc m * up e * 2 ^ 1074 / down e * 2 ^ 1074)
 sqrtOf (fin true (suc m) e) = nan
 
+-- c is the whole number nearest to √n: n lies between (c - 1/2)² and (c + 1/2)², neither of which is a whole number
+pub record NearRoot (n c : ℕ) : Type 0 where
+  pub low : c * c < n + c
+  pub high : n ≤ c * c + c
+
 -- r is the bits of a finite value, the one nearest to √n units
 pub record RootBits (n r : ℕ) : Type 0 where
   pub value : ofBits binary64 r ≡ rootOf n

@@ -1,6 +1,10 @@
-// Roots of whole numbers: a guess, tested by its square, and digit by digit where the guess is wrong.
-ghost use Prim.Native.Nat.{_+_, _*_, _^_, _≤_, _<_};
-ghost use Rattle.roots.specs.Root.{IsRoot, RootBits};
+// Roots of whole numbers: the first digits by a line and a division, the others by a second division. Nothing is claimed of the first
+// ones; where they are no good, the root is worked out digit by digit.
+use super::lines::slope;
+use super::lines::start;
+ghost use mathlib.Core.Path.{_≡_};
+ghost use Prim.Native.Nat.{_+_, _*_, _/_, _%_, _^_, _≤_, _<_};
+ghost use Rattle.roots.specs.Root.{IsRoot, NearRoot, RootBits, rootOf};
 
 // 2^52, the weight of the leading digit, which a pattern leaves out; and 2^63, the highest bit.
 pub const LEADING: u64 = 0x10_0000_0000_0000;
@@ -28,46 +32,61 @@ fn root_by_digits(m: u64) -> u64
     q
 }
 
-const HALF: u64 = 0x400_0000; // 2^26
+// A guess at √(4 * m), of some 28 digits: a line near it, 2^5 times as large, and a round of Heron's method. It is good where that root
+// lies from g - 2 to g + 2. Nothing is claimed of it, but for each of four million m that were tried it lay from g - 0.4 to g + 1.1. The
+// ^ and the | change nothing that counts: the compiler sees by them that the divisions are of long numbers, and tests for no short ones.
+fn guess(m: u64, part: u64) -> u64
+    requires { ⌜ m < 2 ^ 54 ⌝ }
+    ensures { λ g. ⌜ (2 ^ 27 ≤ g) × (g < 2 ^ 30) ⌝ }
+{
+    let u = start(part) + slope(part) * m / 0x8000_0000;
+    let q = (m ^ 1) * 1024 / u;
+    (u + 4 * q) / 64 | 0x800_0000
+}
+
+// The whole number nearest to √(m * 2^52). g is the guess at √(4 * m), and a = g - 2. What 4 * m has above a², divided by 2 * g, is near
+// what the root has above a. 2^25 times as large that is b, so the number is near c = a * 2^25 + b; the division is of numbers 2^7
+// times as large. m * 2^52 - c² is b * (2^27 - b) and 2^19 times the rest of it. Where that is more than c, the next number is nearer.
+fn root(m: u64, part: u64) -> u64
+    requires { ⌜ (0 < m) × (m < 2 ^ 54) ⌝ }
+    ensures { λ c. ⌜ NearRoot (m * 2 ^ 52) c ⌝ }
+{
+    let g = guess(m, part);
+    let a = g - 2;
+    if a * a <= 4 * m {
+        let left = 4 * m - a * a;
+        if left < 8 * g {
+            let wide = 128 * g;
+            let long = left * 0x8000_0000;
+            let b = long / wide;
+            let rest = long % wide;
+            let c = a * 0x200_0000 + b;
+            if a * 0x200_0000 < b * (0x7ff_ffff - b) + rest * 0x8_0000 {
+                return c + 1;
+            }
+            return c;
+        }
+    }
+    (root_by_digits(m) + 1) / 2
+}
 
 const TWICE: u64 = 0x20_0000_0000_0000; // 2^53
 
-// The whole part of √(m * 2^54). `near` holds a guess at its first 53 digits, below the leading one:
-// c. Where m * 2^52 - c² is within c, those are c, rounded, and its sign tells the last digit. c² is
-// worked out by the halves of c as high * 2^52 + low, and the difference is taken 2^53 too large.
-fn root(m: u64, near: u64) -> u64
-    requires { ⌜ m < 2 ^ 54 ⌝ }
-    ensures { λ q. ⌜ IsRoot (m * 2 ^ 54) q ⌝ }
+// The bits of the value nearest to √(m * 2^s) units of 2^-1074, for an m of 53 digits. w has those below the leading one, and above
+// them s - 52. Where s is odd, the root is that of 2 * m. Which part of its range the number lies in, that bit of s and four digits say.
+fn root_bits(w: u64) -> u64
+    requires { ⌜ (2 ^ 53 ≤ w) × (w < 3068 * 2 ^ 52) ⌝ }
+    ensures { λ r. ⌜ RootBits ((2 ^ 52 + w % 2 ^ 52) * 2 ^ (w / 2 ^ 52 + 52)) r ⌝ }
 {
-    let c = LEADING + near % LEADING;
-    let a = c / HALF;
-    let b = c % HALF;
-    let bb = b * b;
-    let t = 2 * a * b + bb / HALF;
-    let high = a * a + t / HALF;
-    let low = t % HALF * HALF + bb % HALF;
-    if high < m + 2 {
-        if m <= high + 2 {
-            let rest = (m + 2 - high) * LEADING - low;
-            if TWICE <= rest {
-                if rest <= TWICE + c {
-                    return 2 * c;
-                }
-            } else if TWICE < rest + c {
-                return 2 * c - 1;
-            }
-        }
-    }
-    root_by_digits(m)
+    let y = w % TWICE;
+    let top = if y < LEADING { LEADING } else { y };
+    (w - y) / 2 + root(y + top, y / 0x1_0000_0000_0000)
 }
 
-// The bits of the value nearest to √(m * 2^s) units of 2^-1074; `near` is as for `root`. The 54
-// digits of the root are one more than an f64 holds: the last one says which way to round, since
-// no root lies in the middle of two.
-pub fn root_bits(m: u64, s: u64, near: u64) -> u64
-    requires { ⌜ (2 ^ 52 ≤ m) × (m < 2 ^ 53) × (54 ≤ s) × (s ≤ 3119) ⌝ }
-    ensures { λ r. ⌜ RootBits (m * 2 ^ s) r ⌝ }
+// That value.
+pub fn root_of(w: u64) -> f64
+    requires { ⌜ (2 ^ 53 ≤ w) × (w < 3068 * 2 ^ 52) ⌝ }
+    ensures { λ r. ⌜ r ≡ rootOf ((2 ^ 52 + w % 2 ^ 52) * 2 ^ (w / 2 ^ 52 + 52)) ⌝ }
 {
-    let q = root(m * (1 + s % 2), near);
-    (s / 2 - 26) * LEADING + (q + 1) / 2
+    f64::from_bits(root_bits(w))
 }

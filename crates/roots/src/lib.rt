@@ -1,30 +1,24 @@
 // The square root, correctly rounded, and hypot. Both are total.
 mod digits;
+mod lines;
 
 use digits::LEADING;
-use digits::root_bits;
+use digits::root_of;
 ghost use mathlib.Core.Path.{_≡_};
-ghost use Prim.Native.Nat.{_^_, _<_};
+ghost use Prim.Native.Nat.{_^_, _≤_, _<_};
+ghost use lib.Ieee.{binary64, toBits};
 ghost use Rattle.roots.specs.Root.{sqrtOf};
 ghost use Rattle.roots.specs.Hypot.{infinite, scaledHypot, hypotOf};
 
-// A guess at √x for an x with the bits b, above 0 and not subnormal: its bits. Nothing is claimed of
-// it, but of some million tried all save one in 500,000 were right to the last digit. Three rounds of
-// Newton's method for 1 / √x, then one for √x, with x - z² worked out by the halves of z.
-fn guess(x: f64, b: u64) -> u64
-    requires { ⌜ b < 2 ^ 63 ⌝ }
+// 1021 * 2^52. A number with the field f is m * 2^(f + 1073) units of 2^-2148, and `root_of` has 52 less than that exponent above m.
+const LIFT: u64 = 0x3fd0_0000_0000_0000;
+
+// The root of a number above 0 that is finite and not subnormal.
+fn root_of_normal(x: f64) -> f64
+    requires { ⌜ (2 ^ 52 ≤ toBits binary64 x) × (toBits binary64 x < 0x7ff0_0000_0000_0000) ⌝ }
+    ensures { λ r. ⌜ r ≡ sqrtOf x ⌝ }
 {
-    let half = 0.5 * x;
-    let first = f64::from_bits(0x5fe6_eb50_c7b5_37a9 - b / 2);
-    let second = first * (1.5 - half * first * first);
-    let third = second * (1.5 - half * second * second);
-    let r = third * (1.5 - half * third * third);
-    let z = x * r;
-    let wide = 134217729.0 * z;
-    let high = wide - (wide - z);
-    let low = z - high;
-    let rest = x - high * high - 2.0 * high * low - low * low;
-    floats::bits::bits_of(z + rest * (0.5 * r))
+    root_of(f64::to_bits(x) + LIFT)
 }
 
 // IEEE 754's squareRoot: the value nearest to the root, a tie to the even one. The root of -0 is -0.
@@ -37,15 +31,14 @@ pub fn sqrt(x: f64) -> f64
     if 0.0 < x {
         let b = f64::to_bits(x);
         let field = b / LEADING;
-        let t = b % LEADING;
         if field == 2047 {
             return x;
         }
         if field == 0 {
-            let z = u64::leading_zeros(t) - 11;
-            return f64::from_bits(root_bits(t << z, 1074 - z as u64, 0));
+            let z = u64::leading_zeros(b) - 11;
+            return root_of((b << z) + (1021 - z as u64) * LEADING);
         }
-        return f64::from_bits(root_bits(LEADING + t, field + 1073, guess(x, b)));
+        return root_of_normal(x);
     }
     x
 }
@@ -57,16 +50,18 @@ const GROW: f64 = 4.149515568880993e180; // 6570000000000000
 
 const SHRINK: f64 = 2.409919865102884e-181; // 1a70000000000000
 
-// √(x² + y²), with no overflow or underflow on the way where the value is in range.
+// √(x² + y²), with no overflow or underflow on the way where the value is in range. The usual case is the first to be tested.
 pub fn hypot(x: f64, y: f64) -> f64
     ensures { λ r. ⌜ r ≡ hypotOf x y ⌝ }
 {
     let s = x * x + y * y;
+    if LEAST <= s {
+        if s < 1.0 / 0.0 {
+            return root_of_normal(s);
+        }
+    }
     if s < LEAST {
         return scaled_hypot(GROW, SHRINK, x, y);
-    }
-    if s < 1.0 / 0.0 {
-        return sqrt(s);
     }
     if is_infinite(x) {
         return 1.0 / 0.0;

@@ -1,14 +1,13 @@
 -- `sqrt`: each way out of the code is a case of Cases.antt.
 use borrow.Author.Needs.{needs}
 use mathlib.Core.Path.{sym, ap, _∙_, subst}
-use Prim.Native.Nat.{ℕ, _-_, _%_, _^_}
+use Prim.Native.Nat.{ℕ, _-_}
 use native.Mathlib.Omega.{arith}
 use lib.Count.{leadingZeros}
 use lib.Dec.{T}
 use lib.Ieee.{binary64, fits, toBits}
 use Rattle.roots.specs.Root.{rootOf}
-use Rattle.roots.proofs.Ladder.{known}
-use Rattle.roots.proofs.Cases.{negative, number, level, infinite, Positive, positive, normal, Shift, shift, subnormal}
+use Rattle.roots.proofs.Cases.{negative, number, level, infinite, Positive, positive, Shift, shift, subnormal}
 use Rattle.roots.proofs.sqrt.Statement.{statement}
 use Rattle.roots.proofs.sqrt.Tie as tie
 
@@ -27,22 +26,19 @@ above : (c : tie.Else3) → Positive (c .before .before .before .args .x) (bits 
 above c = positive (c .before .before .before .args .x) (held (c .before .before .before)) (c .before .if2 .taken) (c .if3 .left)
 
 -- a field of 0: the digits are not 0, and are shifted
-shifted : (c : tie.Then4) → Shift (bits (c .before) % 2 ^ 52) (leadingZeros 64 (bits (c .before) % 2 ^ 52) - 11)
-shifted c = shift (bits (c .before) % 2 ^ 52) (omega (arith, above (c .before) .some)) (omega arith)
+shifted : (c : tie.Then4) → Shift (bits (c .before)) (leadingZeros 64 (bits (c .before)) - 11)
+shifted c = shift (bits (c .before)) (above (c .before) .some) (omega arith)
 
-root-bits-requires : tie.Need-root-bits-requires
-root-bits-requires c κs = let s = shifted c in (s .from, s .below, omega (arith, s .most), omega (arith, s .most))
+root-of-requires : tie.Need-root-of-requires
+root-of-requires c κs = let s = shifted c in (omega (arith, s .most, s .from, s .below), omega (arith, s .most, s .from, s .below))
 
 returns-3 : tie.Need-returns-3
 returns-3 c =
     let b = bits (c .before .before) in
-    c .root-bits .ensures .value ∙ ap rootOf (subnormal b (leadingZeros 64 (b % 2 ^ 52) - 11) (c .before .if4 .taken) (shifted (c .before))) ∙ sym (above (c .before .before) .root)
+    c .root-of .ensures ∙ ap rootOf (subnormal b (leadingZeros 64 b - 11) (c .before .if4 .taken) (shifted (c .before))) ∙ sym (above (c .before .before) .root)
 
-float-from-bits-result-2 : tie.Need-float-from-bits-result-2
-float-from-bits-result-2 c = known (c .root-bits2 .result) (c .root-bits2 .ensures .finite)
-
-returns-4 : tie.Need-returns-4
-returns-4 c = c .root-bits2 .ensures .value ∙ ap rootOf (normal (bits (c .before .before .before)) (c .before .before .if4 .left)) ∙ sym (above (c .before .before .before) .root)
+root-of-normal-requires : tie.Need-root-of-normal-requires
+root-of-normal-requires c κs = (omega arith, above (c .before) .below)
 
 returns-5 : tie.Need-returns-5
 returns-5 c = level (c .before .before .args .x) (c .before .if1 .left) (c .if2 .left)
@@ -52,8 +48,6 @@ sqrt-spec =
     tie.close
     (tie.spec (λ c. negative (c .before .args .x) (c .if1 .taken))
     (λ c. number (c .before .before .args .x) (c .if2 .taken)) returns-2 (λ c. shifted c .zeros)
-    (λ c. omega (arith, shifted c .most)) (λ c. omega (arith, shifted c .most))
-    (λ c. omega (arith, shifted c .most)) (λ c. omega (arith, shifted c .most)) root-bits-requires
-    (λ c. known (c .root-bits .result) (c .root-bits .ensures .finite)) returns-3 (λ c. search needs)
-    (λ c. omega (arith, above (c .before) .below)) (λ c κs. omega (arith, above (c .before) .below)) (λ c κs. omega (arith, above (c .before .before) .below))
-    float-from-bits-result-2 returns-4 returns-5)
+    (λ c. omega (arith, shifted c .most)) (λ c. omega (arith, shifted c .most)) (λ c. omega (arith, shifted c .most)) (λ c. omega (arith, shifted c .most))
+    (λ c. omega (arith, shifted c .most)) (λ c. omega (arith, shifted c .most, shifted c .below)) root-of-requires
+    returns-3 root-of-normal-requires (λ c. search needs) returns-5)

@@ -1,26 +1,42 @@
 use borrow.Author.Needs.{needs}
-use Prim.Native.Nat.{_+_, _*_, _%_}
+use mathlib.Core.Path.{_≡_, ap}
+use mathlib.Core.Logic.{inl, inr}
+use Prim.Native.Nat.{ℕ, _+_, _*_, _/_, _%_, _^_, _<_}
 use native.Mathlib.Omega.{arith}
-use Rattle.roots.proofs.Assemble.{wide, q-below, joined}
+use Rattle.roots.proofs.Assemble.{shared, wide, c-below, written}
 use Rattle.roots.proofs.digits.root_bits.Statement.{statement}
 use Rattle.roots.proofs.digits.root_bits.Tie as tie
 
-mul-root : tie.Need-mul-root
-mul-root c = omega (arith, wide (c .args .m) (c .args .s))
+-- where the two ways meet: the number whose root is asked
+abbrev m : tie.Joined1 → ℕ
+m c = c .before .args .w % 2 ^ 53 + c .if1 .top
+
+abbrev Same : tie.Joined1 → Type 0
+Same c = let w = c .before .args .w in m c ≡ (2 ^ 52 + w % 2 ^ 52) * (1 + (w / 2 ^ 52 + 52) % 2)
+
+same : (c : tie.Joined1) → Same c
+same c = let w = c .before .args .w in shared w (m c) (elim (c .if1 .came) [ inl h ↦ inl (h .0 .taken, ap (λ (x : ℕ). w % 2 ^ 53 + x) (h .1)) | inr h ↦ inr (h .0 .left, ap (λ (x : ℕ). w % 2 ^ 53 + x) (h .1)) ])
+
+range : (c : tie.Joined1) → (0 < m c) × (m c < 2 ^ 54)
+range c = let w = c .before .args .w in let h = wide (2 ^ 52 + w % 2 ^ 52) (w / 2 ^ 52 + 52) in (omega (arith, same c, h), omega (arith, same c, h))
+
+add-root : tie.Need-add-root
+add-root c = omega (arith, range (c .before))
 
 root-requires : tie.Need-root-requires
-root-requires c κs = omega (arith, wide (c .args .m) (c .args .s))
+root-requires c κs = range (c .before)
 
 add-result : tie.Need-add-result
 add-result c =
-    let a = c .before .args in
-    omega (arith, q-below (a .m * (1 + a .s % 2)) (c .root .result) (omega (arith, wide (a .m) (a .s))) (c .root .ensures))
+    let j = c .before .before in
+    let s = j .before in
+    omega (arith, c-below (s .args .w) (m j) (c .root .result) (s .pre .0) (s .pre .1) (same j) (c .root .ensures))
 
 returns : tie.Need-returns
 returns c =
-    let a = c .before .args in
-    let p = c .before .pre in
-    joined (a .m) (a .s) (c .root .result) (p .0) (p .1) (p .2) (p .3) (c .root .ensures)
+    let j = c .before .before in
+    let s = j .before in
+    written (s .args .w) (m j) (c .root .result) (s .pre .0) (s .pre .1) (same j) (c .root .ensures)
 
 pub root-bits-spec : {M : Type 1} → statement M
-root-bits-spec = tie.close (tie.spec (λ c. search needs) mul-root root-requires (λ c. search needs) (λ c. search needs) add-result (λ c. search needs) returns)
+root-bits-spec = tie.close (tie.spec (λ c. search needs) add-root root-requires add-result returns)
