@@ -155,11 +155,11 @@ fn products(room: &mut [f64], w: &mut [f64], stride: usize, n: usize)
 // The same, with room of its own for the sixteen rows: to clear much of it costs a small matrix more than the
 // products do.
 fn products_of_few(room: &mut [f64], n: usize)
-    requires { ⌜ (n * n + n * n ≤ length (now room)) × (n ≤ 32) ⌝ }
+    requires { ⌜ (n * n + n * n ≤ length (now room)) × (n ≤ 16) ⌝ }
     ensures { λ _. ⌜ now (room .exit) ≡ symmetric (λ i j. sumOf n (λ t. entry n (part (n * n) (n * n + n * n) (now (room .entry))) i t ⊗ differenceAt (λ s. entry n (part (n * n) (n * n + n * n) (now (room .entry))) s j) n t)) n ++ drop (n * n) (now (room .entry)) ⌝ }
 {
-    let mut w = [0.0f64; 512];
-    products(room, &mut w, 32, n);
+    let mut w = [0.0f64; 256];
+    products(room, &mut w, 16, n);
 }
 
 // And with room for any matrix: the rows stand 256 apart, where `rows::add_terms` takes sixteen terms a pass.
@@ -180,7 +180,7 @@ fn fill_room(room: &mut [f64], x: &[f64], inv: &[[f64; 8]; 8], n: usize, k: usiz
     let full = half + half;
     let mut u = [0.0f64; 8];
     residual_maker(&mut room[half..full], &mut u[..k], x, inv, n, k);
-    if n <= 32 {
+    if n <= 16 {
         products_of_few(room, n);
     } else {
         products_of_many(room, n);
