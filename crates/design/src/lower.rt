@@ -13,7 +13,8 @@ fn above(l: &[[f64; 8]; 8], r: &[[f64; 8]; 8], i: usize, j: usize) -> f64
 {
     let mut s = -0.0f64;
     for m in 0..i - j {
-        s = s + l[i][j + m] * r[j + m][j];
+        let t = j + m;
+        s = s + l[i][t] * r[t][j];
     }
     s
 }
@@ -23,11 +24,12 @@ fn lower_row(l: &[[f64; 8]; 8], r: &[[f64; 8]; 8], i: usize) -> [f64; 8]
     requires { ⌜ i < 8 ⌝ }
     ensures { λ w. ⌜ w ≡ row (i + 1) (lowerEntry (now (l .entry)) (now (r .entry)) i) ⌝ }
 {
+    let diagonal = l[i][i];
     let mut row = [0.0f64; 8];
     for j in 0..i {
-        row[j] = -above(l, r, i, j) / l[i][i];
+        row[j] = -above(l, r, i, j) / diagonal;
     }
-    row[i] = 1.0 / l[i][i];
+    row[i] = 1.0 / diagonal;
     row
 }
 
@@ -60,7 +62,8 @@ fn square_entry(r: &[[f64; 8]; 8], k: usize, i: usize, j: usize) -> f64
     let from = larger(i, j);
     let mut s = -0.0f64;
     for m in 0..k - from {
-        s = s + r[from + m][i] * r[from + m][j];
+        let t = from + m;
+        s = s + r[t][i] * r[t][j];
     }
     s
 }

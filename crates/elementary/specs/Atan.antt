@@ -58,9 +58,12 @@ atanRest t =
     let w = z ⊗ z in
     t ⊗ (z ⊗ horner atanOdd w ⊕ w ⊗ horner atanEven w)
 
--- Step 2 from 7/16 on: the two parts of atan p, and t, at point i.
+-- Step 2 from 7/16 on: t, for the point p; and with it the two parts of atan p, at point i.
+abbrev pub turnedBack : Float → Float → Float
+turnedBack p a = (a ⊖ p) ⊘ (one ⊕ p ⊗ a)
+
 abbrev pub about : ℕ → Float → Turned
-about i a = record { hi = atanHi ‼ i; lo = atanLo ‼ i; t = (a ⊖ points ‼ i) ⊘ (one ⊕ points ‼ i ⊗ a) }
+about i a = record { hi = atanHi ‼ i; lo = atanLo ‼ i; t = turnedBack (points ‼ i) a }
 
 -- The nearest point: 1/2, 1, 3/2 or infinity.
 abbrev pub turn : Float → Turned

@@ -1,7 +1,6 @@
 // The steps of atan (specs/Atan.antt has the method), and its constants.
 ghost use mathlib.Core.Path.{_≡_};
-ghost use Prim.Native.Nat.{_<_};
-ghost use Rattle.elementary.specs.Atan.{atanRest, about, turn, atanTurned, atanSize};
+ghost use Rattle.elementary.specs.Atan.{atanRest, turnedBack, turn, atanTurned, atanSize};
 use crate::polynomials::horner;
 
 // (atan t / t - 1) in powers of z = t^2: those of z^11, z^9, .., z, and those of z^10, z^8, .., z^2.
@@ -22,35 +21,14 @@ const ATAN_EVEN: [f64; 5] = [
     0.1999999999998777, // 3fc9999999998863  z^2, near 1/5
 ];
 
-// Where the point that an angle is turned back by changes: none, 1/2, 1, 3/2, infinity.
-const SEAMS: [f64; 4] = [
-    0.4375, // 3fdc000000000000  7/16
-    0.6875, // 3fe6000000000000  11/16
-    1.1875, // 3ff3000000000000  19/16
-    2.4375, // 4003800000000000  39/16
-];
+// Up to where the point that an angle is turned back by is none, 1/2, 1 and 3/2. From there it is infinity.
+const NEAR_NONE: f64 = 0.4375; // 3fdc000000000000  7/16
 
-// The points.
-const POINTS: [f64; 3] = [
-    0.5, // 3fe0000000000000
-    1.0, // 3ff0000000000000
-    1.5, // 3ff8000000000000
-];
+const NEAR_HALF: f64 = 0.6875; // 3fe6000000000000  11/16
 
-// The arc tangents of these and of infinity, rounded, and what the rounding lost.
-const ATAN_HI: [f64; 4] = [
-    0.4636476090008061, // 3fddac670561bb4f  atan 1/2
-    0.7853981633974483, // 3fe921fb54442d18  pi/4
-    0.982793723247329, // 3fef730bd281f69b  atan 3/2
-    1.5707963267948966, // 3ff921fb54442d18  pi/2
-];
+const NEAR_ONE: f64 = 1.1875; // 3ff3000000000000  19/16
 
-const ATAN_LO: [f64; 4] = [
-    2.2698777452961687e-17, // 3c7a2b7f222f65e2
-    3.061616997868383e-17, // 3c81a62633145c07
-    1.3903311031230998e-17, // 3c7007887af0cbbd
-    6.123233995736766e-17, // 3c91a62633145c07
-];
+const NEAR_THREE_HALVES: f64 = 2.4375; // 4003800000000000  39/16
 
 // atan p in two parts, and the t for which atan a = atan p + atan t.
 pub struct Turned {
@@ -68,34 +46,42 @@ fn atan_rest(t: f64) -> f64
     t * (z * horner(&ATAN_ODD, w) + w * horner(&ATAN_EVEN, w))
 }
 
-// a, turned back by the angle of POINTS[i].
-fn about(i: usize, a: f64) -> Turned
-    requires { ⌜ i < 3 ⌝ }
-    ensures { λ r. ⌜ r ≡ about i a ⌝ }
+// The tangent of the angle whose tangent is a, turned back by the angle of p.
+fn turned_back(p: f64, a: f64) -> f64
+    ensures { λ t. ⌜ t ≡ turnedBack p a ⌝ }
 {
-    Turned {
-        hi: ATAN_HI[i],
-        lo: ATAN_LO[i],
-        t: (a - POINTS[i]) / (1.0 + POINTS[i] * a),
-    }
+    (a - p) / (1.0 + p * a)
 }
 
-// a >= 7/16, turned back by the angle of the nearest point.
+// a >= 7/16, turned back by the angle of the nearest point. The arc tangents of the points are rounded, with what the rounding
+// lost.
 fn turn(a: f64) -> Turned
     ensures { λ r. ⌜ r ≡ turn a ⌝ }
 {
-    if a < SEAMS[1] {
-        return about(0, a);
+    if a < NEAR_HALF {
+        return Turned {
+            hi: 0.4636476090008061, // 3fddac670561bb4f  atan 1/2
+            lo: 2.2698777452961687e-17, // 3c7a2b7f222f65e2
+            t: turned_back(0.5, a),
+        };
     }
-    if a < SEAMS[2] {
-        return about(1, a);
+    if a < NEAR_ONE {
+        return Turned {
+            hi: 0.7853981633974483, // 3fe921fb54442d18  pi/4
+            lo: 3.061616997868383e-17, // 3c81a62633145c07
+            t: turned_back(1.0, a),
+        };
     }
-    if a < SEAMS[3] {
-        return about(2, a);
+    if a < NEAR_THREE_HALVES {
+        return Turned {
+            hi: 0.982793723247329, // 3fef730bd281f69b  atan 3/2
+            lo: 1.3903311031230998e-17, // 3c7007887af0cbbd
+            t: turned_back(1.5, a),
+        };
     }
     Turned {
-        hi: ATAN_HI[3],
-        lo: ATAN_LO[3],
+        hi: 1.5707963267948966, // 3ff921fb54442d18  pi/2
+        lo: 6.123233995736766e-17, // 3c91a62633145c07
         t: -1.0 / a,
     }
 }
@@ -111,7 +97,7 @@ fn atan_turned(p: Turned) -> f64
 pub fn atan_size(a: f64) -> f64
     ensures { λ r. ⌜ r ≡ atanSize a ⌝ }
 {
-    if a < SEAMS[0] {
+    if a < NEAR_NONE {
         return a + atan_rest(a);
     }
     atan_turned(turn(a))

@@ -5,10 +5,9 @@ use crate::patterns::two_to;
 use crate::polynomials::horner;
 
 // ln 2 in two parts.
-pub const LN_2: [f64; 2] = [
-    0.6931471805592082, // 3fe62e42fefa2000  its first 40 digits
-    7.371002565167799e-13, // 3d69ef35793c7673  the rest
-];
+pub const LN_2_FIRST: f64 = 0.6931471805592082; // 3fe62e42fefa2000  its first 40 digits
+
+pub const LN_2_REST: f64 = 7.371002565167799e-13; // 3d69ef35793c7673  the rest
 
 // Taylor's coefficients.
 const EXP: [f64; 12] = [
@@ -40,8 +39,8 @@ pub const GREATEST: f64 = 6755399441058824.0; // 4338000000000c08
 pub fn exp_reduced(x: f64, k: f64) -> f64
     ensures { λ y. ⌜ y ≡ expReduced x k ⌝ }
 {
-    let hi = x - k * LN_2[0];
-    let lo = k * LN_2[1];
+    let hi = x - k * LN_2_FIRST;
+    let lo = k * LN_2_REST;
     let r = hi - lo;
     let c = (hi - r) - lo;
     let y = 1.0 + r;

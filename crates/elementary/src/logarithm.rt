@@ -1,7 +1,8 @@
 // The steps that ln and ln_1p share (specs/Ln.antt has the method), and their constants.
 ghost use mathlib.Core.Path.{_≡_};
 ghost use Rattle.elementary.specs.Ln.{lnRest, lnNormal};
-use crate::exponential::LN_2;
+use crate::exponential::LN_2_FIRST;
+use crate::exponential::LN_2_REST;
 use crate::patterns::digits;
 use crate::patterns::field;
 use crate::patterns::raised;
@@ -51,5 +52,5 @@ pub fn ln_normal(w: f64, bias: f64, c: f64) -> f64
     let b = raised(bits_of(w));
     let k = field(b) - bias;
     let f = digits(b) - 1.0;
-    k * LN_2[0] - (ln_rest(f, c + k * LN_2[1]) - f)
+    k * LN_2_FIRST - (ln_rest(f, c + k * LN_2_REST) - f)
 }

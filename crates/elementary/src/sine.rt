@@ -5,12 +5,13 @@ use crate::polynomials::horner;
 use floats::bits::bits_of;
 
 // pi/2 in four parts.
-const HALF_PI: [f64; 4] = [
-    1.5707963267341256, // 3ff921fb54400000  its first 33 digits
-    6.077100506303966e-11, // 3dd0b4611a600000  the next 33
-    2.0222662487111665e-21, // 3ba3198a2e000000  the next 33
-    8.4784276603689e-32, // 397b839a252049c1  the rest
-];
+const HALF_PI_FIRST: f64 = 1.5707963267341256; // 3ff921fb54400000  its first 33 digits
+
+const HALF_PI_NEXT: f64 = 6.077100506303966e-11; // 3dd0b4611a600000  the next 33
+
+const HALF_PI_THIRD: f64 = 2.0222662487111665e-21; // 3ba3198a2e000000  the next 33
+
+const HALF_PI_REST: f64 = 8.4784276603689e-32; // 397b839a252049c1  the rest
 
 // Taylor's coefficients.
 const SIN: [f64; 8] = [
@@ -81,11 +82,11 @@ pub fn sin_reduced(x: f64) -> f64
 {
     let t = x * PER_HALF_PI + SHIFT;
     let k = t - SHIFT;
-    let a = x - k * HALF_PI[0];
-    let b = k * HALF_PI[1];
+    let a = x - k * HALF_PI_FIRST;
+    let b = k * HALF_PI_NEXT;
     let m = a - b;
-    let d = k * HALF_PI[2];
+    let d = k * HALF_PI_THIRD;
     let r = m - d;
-    let c = ((d - (m - r)) + (b - (a - m))) + k * HALF_PI[3];
+    let c = ((d - (m - r)) + (b - (a - m))) + k * HALF_PI_REST;
     quarter_turns(bits_of(t) % 4, r, c)
 }

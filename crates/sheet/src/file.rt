@@ -6,7 +6,8 @@ ghost use mathlib.Core.List.{_++_};
 ghost use Prim.Native.Nat.{_+_, _*_, _<_, _≤_};
 ghost use lib.ListN.{length, drop};
 ghost use Rattle.sheet.specs.Contents.{countOf, entryPlace, entryOf, bodyEnd, bodyNumber, numbersOf, residualsOf, columnsOf, bodyCount, Counts};
-ghost use Rattle.sheet.specs.Reading.{dueAt, entryFault, refusalsFrom, firstMet, readFile, checkOf, numberOf, indexOf, nextOf};
+ghost use Rattle.sheet.specs.declared.file.FileRefusal.the-variants.{Codes};
+ghost use Rattle.sheet.specs.Reading.{dueAt, meets, entryFault, refusalsFrom, firstMet, readFile, checkOf, numberOf, indexOf, nextOf};
 
 // Where one sheet's body begins, its size, and its two codes: alternative 0 greater, 1 less, 2 two-sided; choice 0 default, 1 exact,
 // 2 normal.
@@ -100,19 +101,26 @@ fn body_end(e: Entry) -> usize
     e.offset as usize + 8 * (e.rows as usize * (e.columns as usize + 1))
 }
 
-// What is wrong with entry `i`, whose body is due at `due`.
-fn entry_fault(file: &[u8], i: usize, due: usize) -> Fault
-    requires { ⌜ (entryPlace (i + 1) ≤ length (now file)) × (due ≡ dueAt (now file) i) ⌝ }
-    ensures { λ r. ⌜ r ≡ entryFault (now (file .entry)) i ⌝ }
+// Whether entry `i`, which is `e`, has a code beyond 2 or a spare byte that is not 0.
+fn codes_wrong(file: &[u8], i: usize, e: Entry) -> bool
+    requires { ⌜ (entryPlace (i + 1) ≤ length (now file)) × (e ≡ entryOf (now file) i) ⌝ }
+    ensures { λ r. ⌜ r ≡ meets (now (file .entry)) (Codes i) ⌝ }
 {
-    let e = entry_at(file, i);
     if e.alternative > 2 {
-        return Fault::Met(FileRefusal::Codes(i));
+        return true;
     }
     if e.choice > 2 {
-        return Fault::Met(FileRefusal::Codes(i));
+        return true;
     }
-    if little_endian(file, 4 + 16 * i + 10, 6) != 0 {
+    little_endian(file, 4 + 16 * i + 10, 6) != 0
+}
+
+// What is wrong with entry `i`, which is `e` and whose body is due at `due`.
+fn entry_fault(file: &[u8], i: usize, e: Entry, due: usize) -> Fault
+    requires { ⌜ (entryPlace (i + 1) ≤ length (now file)) × (e ≡ entryOf (now file) i) × (due ≡ dueAt (now file) i) ⌝ }
+    ensures { λ r. ⌜ r ≡ entryFault (now (file .entry)) i ⌝ }
+{
+    if codes_wrong(file, i, e) {
         return Fault::Met(FileRefusal::Codes(i));
     }
     if e.offset as usize != due {
@@ -130,10 +138,11 @@ fn check_entries(file: &[u8], count: usize) -> FileCheck
 {
     let mut due = 4 + 16 * count;
     for i in 0..count {
-        if let Fault::Met(refusal) = entry_fault(file, i, due) {
+        let e = entry_at(file, i);
+        if let Fault::Met(refusal) = entry_fault(file, i, e, due) {
             return FileCheck::Refused(refusal);
         }
-        due = body_end(entry_at(file, i));
+        due = body_end(e);
     }
     if due != file.len() {
         return FileCheck::Refused(FileRefusal::LeftOver);

@@ -11,27 +11,20 @@ use Rattle.design.proofs.lower.lower_row.Statement.{statement}
 use Rattle.design.proofs.lower.lower_row.Tie as tie
 
 abbrev Inv-loop : tie.InvT-loop
-Inv-loop l r i row₀ j₀ row j = (j ≤ i) × (row ≡ fill (lowerEntry l r i) j zeroRow)
+Inv-loop l r i diagonal row₀ j₀ row j = (j ≤ i) × (row ≡ fill (lowerEntry l r i) j zeroRow)
 
 abbrev μ-loop : tie.MeasureT-loop
-μ-loop l r i row₀ j₀ row j = i - j
+μ-loop l r i diagonal row₀ j₀ row j = i - j
 
 loop-again : tie.Need-loop-again Inv-loop μ-loop
-loop-again c =
-    let a = c .before .before .before .before .args in
-    (omega arith, rw (c .before .above .ensures, c .before .before .before .loop .inv .1) (sym (lower-more (a .l .now) (a .r .now) (a .i) (c .before .before .loop-test .taken))))
+loop-again c = (omega arith, rw (c .above .ensures, c .before .before .loop .inv .1) (sym (lower-more (c .before .before .before .before .args .l .now) (c .before .before .before .before .args .r .now) (c .before .before .before .before .args .i) (c .before .loop-test .taken))))
 
 returns : tie.Need-returns Inv-loop μ-loop
-returns c =
-    let a = c .before .before .before .args in
-    let w = c .before .before .loop in
-    let h : w .j ≡ a .i = omega arith in rw (w .inv .1, h) (lower-last (a .l .now) (a .r .now) (a .i))
+returns c = let h : c .before .loop .j ≡ c .before .before .before .args .i = omega arith in rw (c .before .loop .inv .1, h) (lower-last (c .before .before .before .args .l .now) (c .before .before .before .args .r .now) (c .before .before .before .args .i))
 
 pub lower-row-spec : {M : Type 1} → statement M
 lower-row-spec =
     tie.close
-    (tie.spec Inv-loop μ-loop (λ c. (omega arith, sym (fill-none _ _))) (λ c κs. search needs)
-    (λ c. search needs) (λ c. search needs) (λ c. search needs) (λ c. search needs) (λ c. search needs)
-    (λ c. search needs) (λ c. search needs) (λ c. search needs) loop-again (λ c. search needs)
-    (λ c. search needs) (λ c. search needs) (λ c. search needs) (λ c. search needs) (λ c. search needs)
-    returns)
+    (tie.spec Inv-loop μ-loop (λ c. search needs) (λ c. search needs) (λ c. search needs) (λ c. search needs)
+    (λ c. (omega arith, sym (fill-none _ _))) (λ c κs. search needs) (λ c. search needs) (λ c. search needs)
+    (λ c. search needs) (λ c. search needs) loop-again (λ c. search needs) (λ c. search needs) returns)

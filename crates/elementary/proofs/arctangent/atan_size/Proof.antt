@@ -8,6 +8,5 @@ returns-2 c = rw (c .before .before .if1 .left, c .atan-turned .ensures, c .befo
 pub atan-size-spec : {M : Type 1} → statement M
 atan-size-spec =
     tie.close
-    (tie.spec (λ c. search needs) (λ c κs. search needs)
-    (λ c. rw (c .before .if1 .taken, c .atan-rest .ensures)) (λ c κs. search needs) (λ c κs. search needs)
-    returns-2)
+    (tie.spec (λ c κs. search needs) (λ c. rw (c .before .if1 .taken, c .atan-rest .ensures))
+    (λ c κs. search needs) (λ c κs. search needs) returns-2)

@@ -5,5 +5,4 @@ use Rattle.elementary.proofs.exponential.exp_reduced.Tie as tie
 pub exp-reduced-spec : {M : Type 1} → statement M
 exp-reduced-spec =
     tie.close
-    (tie.spec (λ c. search needs) (λ c. search needs) (λ c. search needs) (λ c κs. search needs)
-    (λ c. rw (c .horner .ensures)))
+    (tie.spec (λ c. search needs) (λ c κs. search needs) (λ c. rw (c .horner .ensures)))

@@ -9,4 +9,4 @@ pub ln-normal-spec : {M : Type 1} → statement M
 ln-normal-spec =
     tie.close
     (tie.spec (λ c κs. search needs) (λ c κs. search needs) (λ c κs. search needs) (λ c κs. search needs)
-    (λ c. search needs) (λ c. search needs) (λ c κs. search needs) returns)
+    (λ c κs. search needs) returns)

@@ -26,15 +26,11 @@ unfolding dueAt
 loop-holds c = (omega arith, rw (c .before .pre .0), rw sub-zero)
 
 returns : tie.Need-returns Inv-loop μ-loop
-returns c = ap checkOf (sym (met-decides _ _ _ (sym (c .before .before .before .entry-fault .ensures) ∙ c .before .refusal .given .1)) ∙ rw (sub-step (c .before .before .before .before .loop-test .taken)) at (c .before .before .before .before .before .loop .inv .2))
+returns c = ap checkOf (sym (met-decides _ _ _ (sym (c .before .before .before .entry-fault .ensures) ∙ c .before .refusal .given .1)) ∙ rw (sub-step (c .before .before .before .before .before .loop-test .taken)) at (c .before .before .before .before .before .before .loop .inv .2))
 
 loop-again : tie.Need-loop-again Inv-loop μ-loop
 unfolding dueAt
-loop-again c =
-    let loop = c .before .before .before .before .before .before .loop in
-    let loop-test = c .before .before .before .before .before .loop-test in
-    let entry-fault = c .before .before .before .before .entry-fault in
-    (omega arith, rw (add-one (loop .i), ← c .before .entry-at .ensures) (c .body-end .ensures), sym (sound-passes _ _ _ (sym (entry-fault .ensures) ∙ c .before .before .enum-told .given .1)) ∙ rw (sub-step (loop-test .taken)) at (loop .inv .2))
+loop-again c = (omega arith, rw (add-one (c .before .before .before .before .before .before .loop .i), ← c .before .before .before .before .entry-at .ensures) (c .body-end .ensures), sym (sound-passes _ _ _ (sym (c .before .before .before .entry-fault .ensures) ∙ c .before .enum-told .given .1)) ∙ rw (sub-step (c .before .before .before .before .before .loop-test .taken)) at (c .before .before .before .before .before .before .loop .inv .2))
 
 returns-2 : tie.Need-returns-2 Inv-loop μ-loop
 returns-2 c =
@@ -49,6 +45,6 @@ returns-3 c =
 pub check-entries-spec : {M : Type 1} → statement M
 check-entries-spec =
     tie.close
-    (tie.spec Inv-loop μ-loop (λ c. search needs) (λ c. search needs) loop-holds (λ c κs. search needs)
-    (λ c. search needs) returns (λ c. search needs) (λ c κs. search needs) (λ c κs. search needs)
+    (tie.spec Inv-loop μ-loop (λ c. search needs) (λ c. search needs) loop-holds (λ c κs. search needs) (λ c κs. search needs)
+    (λ c. search needs) returns (λ c. search needs) (λ c κs. search needs)
     (λ c. search needs) (λ c. search needs) loop-again returns-2 returns-3)
