@@ -1,5 +1,5 @@
 -- What one turn makes of an open stage, by what was found; and that a stage that is not open stays. One idea: once a turn changes nothing, no later turn does. Assumes nothing.
-use mathlib.Core.Path.{_≡_, refl, sym, ap, _∙_}
+use mathlib.Core.Path.{_≡_, refl, sym, ap, _∙_, subst}
 use mathlib.Core.Logic.{_⊎_, inl, inr, ⊎-elim}
 use mathlib.Core.Bool.{Bool, true, false, _&&_, cond}
 use mathlib.Core.List.{List, [], _∷_}
@@ -44,6 +44,12 @@ pub stays-refused : (f : Float → Float) (ps : List Part) (t : Tally) → nextS
 unfolding nextStage
 stays-refused f ps t = refl
 
+-- once a turn changes nothing, no later turn does
+pub turns-stay : (f : Float → Float) (s₀ s : Stage) (j n : ℕ) → j ≤ n → turns j (λ t. nextStage f) s₀ ≡ s → nextStage f s ≡ s → turns n (λ t. nextStage f) s₀ ≡ s
+unfolding turns
+turns-stay f s₀ s j zero h e k = let z : j ≡ 0 = omega arith in subst (λ m. turns m (λ t. nextStage f) s₀ ≡ s) z e
+turns-stay f s₀ s j (suc n) h e k = ⊎-elim (λ z. subst (λ m. turns m (λ t. nextStage f) s₀ ≡ s) z e) (λ l. ap (nextStage f) (turns-stay f s₀ s j n (omega arith) e k) ∙ k) (eq-or-lt-of-le {n = j} {m = suc n} h)
+
 module _ (f : Float → Float) (a b : Float) where
   pub first-open : finitePart (gk15Of f a b) ≡ true → stageAfter 0 f a b ≡ stage (gk15Of f a b ∷ []) (oneRule noWork) Open
   unfolding stageAfter
@@ -57,11 +63,9 @@ module _ (f : Float → Float) (a b : Float) where
   unfolding stageAfter
   stage-next k = rw (add-one k)
 
-  -- once a turn changes nothing, no later turn does
   pub stage-stays : (s : Stage) (j n : ℕ) → j ≤ n → stageAfter j f a b ≡ s → nextStage f s ≡ s → stageAfter n f a b ≡ s
-  stage-stays s j zero h e k = let z : 0 ≡ j = omega arith in rw z e
-  stage-stays s j (suc n) h e k =
-      ⊎-elim (λ z. rw (← z) e) (λ l. rw (← add-one n) (stage-next n ∙ ap (nextStage f) (stage-stays s j n (omega arith) e k) ∙ k)) (eq-or-lt-of-le {n = j} {m = suc n} h)
+  unfolding stageAfter
+  stage-stays = turns-stay f (firstStage f a b)
 
 -- ---- how a turn of an open stage ended tells all of it
 

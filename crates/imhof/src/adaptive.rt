@@ -1,12 +1,15 @@
 // Adaptive quadrature over the part room: the part of greatest error is bisected until the summed error is small enough.
 ghost use mathlib.Core.Path.{_≡_};
 ghost use mathlib.Core.Bool.{_&&_};
-ghost use Prim.Native.Nat.{_<_, _≤_, _+_, _*_};
+ghost use Prim.Native.Nat.{_<_, _≤_, _+_, _*_, _^_};
 ghost use lib.ListN.{length};
 ghost use lib.Ieee.Scale.{finite};
+ghost use Rattle.floats.specs.Count.{noWork, oneBisection};
+ghost use Rattle.floats.specs.Turns.{turns};
+ghost use Rattle.floats.specs.declared.tally.Tally.{Tally};
 ghost use Rattle.imhof.specs.Imhof.{integralOf, quadratureOf, lastStage};
 ghost use Rattle.imhof.specs.Integrand.{integrandOf};
-ghost use Rattle.imhof.specs.Parts.{finitePart, stage, nextStage, stageAfter};
+ghost use Rattle.imhof.specs.Parts.{finitePart, oneRule, stage, nextStage, stageAfter};
 ghost use Rattle.imhof.specs.Room.{partsIn, laidOut};
 ghost use Rattle.imhof.specs.declared.Standing.the-variants.{Open};
 use super::Integral;
@@ -21,12 +24,6 @@ use floats::tally::Tally;
 
 // Half of 1e-11: the cuts of the range and the quadrature share it.
 pub const TOLERANCE: f64 = 5e-12;
-
-// Where a turn left things: how the parts stand, and the work tally.
-pub struct Turn {
-    pub standing: Standing,
-    pub tally: Tally,
-}
 
 pub fn is_finite_part(p: Part) -> bool
     ensures { λ r. ⌜ r ≡ finitePart p ⌝ }
@@ -47,33 +44,30 @@ pub fn are_finite(h: Halves) -> bool
 }
 
 // One turn over n parts: if their summed error is at most 5e-12 they are settled, else the one of greatest error is bisected.
-// Where a half's value or error is not finite the parts stay as they were.
-pub fn advance(weights: &[f64], parts: &mut [f64], n: usize, tally: Tally) -> Turn
+// Where a half's value or error is not finite the parts stay as they were. How they stand does not depend on the tally t.
+pub fn advance(weights: &[f64], parts: &mut [f64], n: usize) -> Standing
     requires { ⌜ (0 < n) × (n < 2001) × (8004 ≤ length (now parts)) ⌝ }
-    requires { ⌜ (tally .bisections ≤ 2000) × (tally .evaluations ≤ 60015) ⌝ }
-    ensures { λ r. ⌜ r .standing ≡ nextStage (integrandOf (now (weights .entry))) (stage (partsIn n (now (parts .entry))) tally Open) .standing ⌝ }
-    ensures { λ r. ⌜ r .tally ≡ nextStage (integrandOf (now (weights .entry))) (stage (partsIn n (now (parts .entry))) tally Open) .tally ⌝ }
-    ensures { λ _. ⌜ now (parts .exit) ≡ laidOut (nextStage (integrandOf (now (weights .entry))) (stage (partsIn n (now (parts .entry))) tally Open) .parts) (now (parts .entry)) ⌝ }
+    ensures { λ r. ⌜ ((t : Tally) → r ≡ nextStage (integrandOf (now (weights .entry))) (stage (partsIn n (now (parts .entry))) t Open) .standing) ⌝ }
+    ensures { λ _. ⌜ ((t : Tally) → now (parts .exit) ≡ laidOut (nextStage (integrandOf (now (weights .entry))) (stage (partsIn n (now (parts .entry))) t Open) .parts) (now (parts .entry))) ⌝ }
 {
     if room::error_sum(parts, n) <= TOLERANCE {
-        return Turn {
-            standing: Standing::Settled,
-            tally,
-        };
+        return Standing::Settled;
     }
     let w = room::worst(parts, n);
     let h = bisect(weights, room::part_at(parts, w));
     if !are_finite(h) {
-        return Turn {
-            standing: Standing::Refused,
-            tally,
-        };
+        return Standing::Refused;
     }
     room::replace(parts, n, w, h.left, h.right);
-    Turn {
-        standing: Standing::Open,
-        tally: tally.bisected().evaluated(15).evaluated(15),
-    }
+    Standing::Open
+}
+
+// The tally after one more bisection: two rules of 15 points.
+pub fn with_bisection(tally: Tally) -> Tally
+    requires { ⌜ (tally .bisections + 1 < 2 ^ 64) × (tally .evaluations + 30 < 2 ^ 64) ⌝ }
+    ensures { λ r. ⌜ r ≡ oneRule (oneRule (oneBisection tally)) ⌝ }
+{
+    tally.bisected().evaluated(15).evaluated(15)
 }
 
 // What n parts add up to.
@@ -88,6 +82,27 @@ fn total(parts: &[f64], n: usize, tally: Tally) -> Integral
     }
 }
 
+// At most 2,000 turns, from the room's first part on.
+fn refine(weights: &[f64], parts: &mut [f64]) -> Quadrature
+    requires { ⌜ 8004 ≤ length (now parts) ⌝ }
+    ensures { λ r. ⌜ r ≡ quadratureOf (turns 2000 (λ t. nextStage (integrandOf (now (weights .entry)))) (stage (partsIn 1 (now (parts .entry))) (oneRule noWork) Open)) ⌝ }
+    ensures { λ _. ⌜ now (parts .exit) ≡ laidOut (turns 2000 (λ t. nextStage (integrandOf (now (weights .entry)))) (stage (partsIn 1 (now (parts .entry))) (oneRule noWork) Open) .parts) (now (parts .entry)) ⌝ }
+{
+    let mut tally = Tally::new().evaluated(15);
+    let mut n = 1;
+    while n < 2001 {
+        let standing = advance(weights, parts, n);
+        match standing {
+            Standing::Open => {}
+            Standing::Settled => break,
+            Standing::Refused => return Quadrature::Broken,
+        }
+        tally = with_bisection(tally);
+        n += 1;
+    }
+    Quadrature::Sum(total(parts, n, tally))
+}
+
 // The integral from lo to hi: one part, then at most 2,000 turns.
 pub fn integrate(weights: &[f64], lo: f64, hi: f64, parts: &mut [f64]) -> Quadrature
     requires { ⌜ 8004 ≤ length (now parts) ⌝ }
@@ -99,18 +114,7 @@ pub fn integrate(weights: &[f64], lo: f64, hi: f64, parts: &mut [f64]) -> Quadra
         return Quadrature::Broken;
     }
     room::put(parts, 0, whole);
-    let mut tally = Tally::new().evaluated(15);
-    for k in 0..2000usize {
-        let after = advance(weights, parts, k + 1, tally);
-        tally = after.tally;
-        let standing = after.standing;
-        match standing {
-            Standing::Open => {}
-            Standing::Settled => return Quadrature::Sum(total(parts, k + 1, tally)),
-            Standing::Refused => return Quadrature::Broken,
-        }
-    }
-    Quadrature::Sum(total(parts, 2001, tally))
+    refine(weights, parts)
 }
 
 // The integral over the weights' own range.

@@ -3,7 +3,9 @@
 ghost use mathlib.Core.Path.{_≡_};
 ghost use Prim.Native.Nat.{_≤_};
 ghost use lib.ListN.{length};
-ghost use Rattle.imhof.specs.Imhof.{imhofOf, outcomeBy, clampOf, estimateOf};
+ghost use Rattle.floats.specs.Count.{noWork};
+ghost use Rattle.imhof.specs.Imhof.{imhofOf, outcomeBy, exactBy, clampOf, estimateOf};
+ghost use Rattle.imhof.specs.declared.Exact.the-variants.{Value};
 ghost use Rattle.imhof.specs.Weights.{signsOf};
 ghost use Rattle.imhof.specs.Room.{laidOut};
 use floats::tally::Tally;
@@ -81,6 +83,23 @@ fn clamped(raw: f64, tally: Tally) -> Estimate
     }
 }
 
+// A probability that took no work.
+fn certain(p: f64) -> Exact
+    ensures { λ r. ⌜ r ≡ Value (estimateOf p noWork) ⌝ }
+{
+    Exact::Value(clamped(p, Tally::new()))
+}
+
+// 1/2 - integral / pi.
+fn from_integral(found: Quadrature) -> Exact
+    ensures { λ r. ⌜ r ≡ exactBy found ⌝ }
+{
+    match found {
+        Quadrature::Sum(i) => Exact::Value(clamped(0.5 - i.value / 3.141592653589793, i.tally)),
+        Quadrature::Broken => Exact::NotFinite,
+    }
+}
+
 // The probability for given weights, none of them 0.
 fn below_zero(weights: &[f64], parts: &mut [f64]) -> Exact
     requires { ⌜ (length (now weights) ≤ 256) × (8004 ≤ length (now parts)) ⌝ }
@@ -91,16 +110,12 @@ fn below_zero(weights: &[f64], parts: &mut [f64]) -> Exact
         return Exact::NoWeight;
     }
     if weights::all_above(weights) {
-        return Exact::Value(clamped(0.0, Tally::new()));
+        return certain(0.0);
     }
     if weights::all_below(weights) {
-        return Exact::Value(clamped(1.0, Tally::new()));
+        return certain(1.0);
     }
-    let found = adaptive::over_range(weights, parts);
-    match found {
-        Quadrature::Sum(i) => Exact::Value(clamped(0.5 - i.value / 3.141592653589793, i.tally)),
-        Quadrature::Broken => Exact::NotFinite,
-    }
+    from_integral(adaptive::over_range(weights, parts))
 }
 
 // P(sum of (eigenvalue - d) z² < 0) for independent standard normal z: the lower tail of the statistic at d.

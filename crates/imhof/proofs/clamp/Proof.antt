@@ -1,11 +1,7 @@
 use lib.Ieee.{lt, ofBits}
-use mathlib.Core.Path.{refl}
 use Rattle.imhof.specs.Imhof.{clampOf}
-use borrow.Author.Needs.{needs}
 use Rattle.imhof.proofs.clamp.Statement.{statement}
 use Rattle.imhof.proofs.clamp.Tie as tie
-use Rattle.imhof.proofs.clamp.Reads as reads
-use Rattle.imhof.proofs.clamp.Lts as lts
 
 returns : tie.Need-returns
 unfolding clampOf lt ofBits
@@ -20,4 +16,6 @@ unfolding clampOf
 returns-3 c = rw (c .before .if1 .left, c .if2 .left)
 
 pub clamp-spec : {M : Type 1} → statement M
-clamp-spec = tie.close (tie.spec returns returns-2 returns-3)
+clamp-spec =
+    tie.close
+    (tie.spec returns returns-2 returns-3)

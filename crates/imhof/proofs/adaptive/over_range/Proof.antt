@@ -11,30 +11,6 @@ use mathlib.Core.Path.{_≡_, refl, sym, ap, ap₂, _∙_}
 use borrow.Author.Needs.{needs}
 use Rattle.imhof.proofs.adaptive.over_range.Statement.{statement}
 use Rattle.imhof.proofs.adaptive.over_range.Tie as tie
-use Rattle.imhof.proofs.adaptive.over_range.Reads as reads
-use Rattle.imhof.proofs.adaptive.over_range.Lts as lts
-use Rattle.floats.proofs.signs.is_finite.Reads as is-finite-reads
-use Rattle.imhof.proofs.adaptive.integrate.Reads as integrate-reads
-use Rattle.imhof.proofs.range.high_end.Reads as high-end-reads
-use Rattle.imhof.proofs.range.low_end.Reads as low-end-reads
-
-low-end-requires : tie.Need-low-end-requires
-low-end-requires c κs = search needs
-
-high-end-requires : tie.Need-high-end-requires
-high-end-requires c κs = search needs
-
-is-finite-requires : tie.Need-is-finite-requires
-is-finite-requires c κs = search needs
-
-is-finite-requires-2 : tie.Need-is-finite-requires-2
-is-finite-requires-2 c κs = search needs
-
-integrate-requires : tie.Need-integrate-requires
-integrate-requires c κs = search needs
-
-same-length : tie.Need-same-length
-same-length c = search needs
 
 returns : tie.Need-returns
 returns c = let ws = c .before .before .before .before .before .before .before .before .before .before .before .before .args .weights .now in
@@ -52,12 +28,5 @@ returns-2 c = let ws = c .before .before .before .before .before .before .args .
 pub over-range-spec : {M : Type 1} → statement M
 over-range-spec =
     tie.close
-    (tie.spec
-    low-end-requires
-    high-end-requires
-    is-finite-requires
-    is-finite-requires-2
-    integrate-requires
-    same-length
-    returns
-    returns-2)
+    (tie.spec (λ c κs. search needs) (λ c κs. search needs) (λ c κs. search needs) (λ c κs. search needs)
+    (λ c κs. search needs) (λ c. search needs) returns returns-2)

@@ -5,18 +5,14 @@ use Rattle.floats.specs.Signs.{before}
 use Rattle.floats.specs.Words.{_‼_}
 use mathlib.Core.Logic.{⊎-elim}
 use mathlib.Core.Bool.{cond}
-use Prim.Native.Nat.{ℕ, zero, suc, _≤_, _<_, _-_, _*_, _+_}
+use Prim.Native.Nat.{_≤_, _-_}
 use native.Mathlib.Omega.{arith}
 use native.Mathlib.Numerals.{add-one}
-use native.Mathlib.Nat.{le-antisymm}
-use mathlib.Core.Path.{_≡_, refl, ap, sym, _∙_}
-use lib.ListN.{length, getD, set, length-set}
+use mathlib.Core.Path.{_≡_, refl, sym, _∙_}
+use lib.ListN.{length}
 use borrow.Author.Needs.{needs}
 use Rattle.imhof.proofs.room.last_greatest.Statement.{statement}
 use Rattle.imhof.proofs.room.last_greatest.Tie as tie
-use Rattle.imhof.proofs.room.last_greatest.Reads as reads
-use Rattle.imhof.proofs.room.last_greatest.Lts as lts
-use Rattle.floats.proofs.signs.comes_before.Reads as comes-before-reads
 
 abbrev Inv-loop : tie.InvT-loop
 Inv-loop errors w₀ i₀ i-end w i = (i ≤ length errors) × (i-end ≡ length errors) × (w ≤ i - 1) × (w ≡ turns i (λ k v. cond (before (errors ‼ k) (errors ‼ v)) v k) 0)
@@ -27,27 +23,6 @@ abbrev μ-loop : tie.MeasureT-loop
 loop-holds : tie.Need-loop-holds Inv-loop μ-loop
 unfolding turns
 loop-holds c = (omega arith, refl, omega arith, refl)
-
-mul-comes-before : tie.Need-mul-comes-before Inv-loop μ-loop
-mul-comes-before c = search needs
-
-shared-slice-read-comes-before : tie.Need-shared-slice-read-comes-before Inv-loop μ-loop
-shared-slice-read-comes-before c = search needs
-
-mul-comes-before-2 : tie.Need-mul-comes-before-2 Inv-loop μ-loop
-mul-comes-before-2 c = search needs
-
-shared-slice-read-comes-before-2 : tie.Need-shared-slice-read-comes-before-2 Inv-loop μ-loop
-shared-slice-read-comes-before-2 c = search needs
-
-comes-before-requires : tie.Need-comes-before-requires Inv-loop μ-loop
-comes-before-requires c κs = search needs
-
-add-i : tie.Need-add-i Inv-loop μ-loop
-add-i c = search needs
-
-loop-less : tie.Need-loop-less Inv-loop μ-loop
-loop-less c = search needs
 
 loop-again : tie.Need-loop-again Inv-loop μ-loop
 unfolding turns
@@ -63,16 +38,5 @@ returns c = let h : c .before .loop .i ≡ length (c .before .before .before .ar
 pub last-greatest-spec : {M : Type 1} → statement M
 last-greatest-spec =
     tie.close
-    (tie.spec
-    Inv-loop
-    μ-loop
-    loop-holds
-    mul-comes-before
-    shared-slice-read-comes-before
-    mul-comes-before-2
-    shared-slice-read-comes-before-2
-    comes-before-requires
-    add-i
-    loop-less
-    loop-again
-    returns)
+    (tie.spec Inv-loop μ-loop loop-holds (λ c. search needs) (λ c. search needs) (λ c. search needs)
+    (λ c. search needs) (λ c κs. search needs) (λ c. search needs) (λ c. search needs) loop-again returns)
