@@ -51,7 +51,8 @@ pub fn gk15(weights: &[f64], a: f64, b: f64) -> Part
     let mut k = GK_WK[7] * fc;
     let mut g = GK_WG[3] * fc;
     for i in 0..7usize {
-        let pair = integrand(weights, c - h * GK_X[i]) + integrand(weights, c + h * GK_X[i]);
+        let x = h * GK_X[i];
+        let pair = integrand(weights, c - x) + integrand(weights, c + x);
         k = k + GK_WK[i] * pair;
         if i % 2 == 1 {
             g = g + GK_WG[i / 2] * pair;

@@ -8,7 +8,7 @@ use Rattle.floats.specs.Count.{oneBisection}
 use Rattle.imhof.specs.Parts.{finitePart, leftHalf, rightHalf, tolerance, oneRule}
 use Rattle.records.specs.declared.course.Look.{Look}
 use Rattle.records.specs.declared.course.Course.{Course}
-use Rattle.records.specs.Records.{courseOf, turnedOf}
+use Rattle.records.specs.Records.{courseOf, lookedBy, turnedOf}
 
 module _ (f : Float → Float) (c : Course) (l : Look) (n : ℕ) where
   abbrev pub finiteHalves : Bool
@@ -29,6 +29,10 @@ module _ (f : Float → Float) (c : Course) (l : Look) (n : ℕ) where
       turned-small h = rw (more, space, h)
 
       module _ (large : le (l .error) tolerance ≡ false) where
+        pub turned-open : turnedOf f c l n ≡ lookedBy false f l (c .tally)
+        unfolding turnedOf
+        turned-open = rw (more, space, large)
+
         pub turned-broken : finiteHalves ≡ false → turnedOf f c l n ≡ courseOf false true l (l .greatest) (l .greatest) (c .tally)
         unfolding turnedOf
         turned-broken h = rw (more, space, large, h)

@@ -1,9 +1,10 @@
 // The work on values between two looks at the records: what a turn finds and decides. All of it is covered, and the four-run form
 // shares the rule, the test of finiteness and the tolerance.
 ghost use mathlib.Core.Path.{_≡_};
+ghost use mathlib.Core.Bool.{false};
 ghost use Prim.Native.Nat.{_+_, _<_, _^_};
 ghost use Rattle.imhof.specs.Integrand.{integrandOf};
-ghost use Rattle.records.specs.Records.{unseenOf, notedOf, courseOf, startOf, turnedOf, zeroPart, foundOf};
+ghost use Rattle.records.specs.Records.{unseenOf, notedOf, courseOf, startOf, lookedBy, turnedOf, zeroPart, foundOf};
 ghost use Rattle.records.specs.declared.Answer.the-variants.{RoomShort, Found};
 use super::Answer;
 use floats::tally::Tally;
@@ -13,6 +14,7 @@ use imhof::Quadrature;
 use imhof::adaptive::TOLERANCE;
 use imhof::adaptive::are_finite;
 use imhof::adaptive::is_finite_part;
+use imhof::adaptive::with_bisection;
 use imhof::rule::bisect;
 use imhof::rule::gk15;
 
@@ -106,6 +108,19 @@ pub fn start(weights: &[f64], lo: f64, hi: f64) -> Course
     formed(false, true, unseen(whole), whole, whole, Tally::new())
 }
 
+// The two halves of the record of greatest error that l found; closed where a half's value or error is not finite.
+fn halved(weights: &[f64], l: Look, tally: Tally) -> Course
+    requires { ⌜ (tally .bisections + 1 < 2 ^ 64) × (tally .evaluations + 30 < 2 ^ 64) ⌝ }
+    ensures { λ r. ⌜ r ≡ lookedBy false (integrandOf (now (weights .entry))) l tally ⌝ }
+{
+    let g = l.greatest;
+    let h = bisect(weights, g);
+    if !are_finite(h) {
+        return formed(false, true, l, g, g, tally);
+    }
+    formed(true, false, l, h.left, h.right, with_bisection(tally))
+}
+
 // One turn over n records, of which l was found: closed where there is no room for another bisection, or the summed error is at most
 // 5e-12, or a half's value or error is not finite; else open, with the two halves of the record of greatest error.
 pub fn turned(weights: &[f64], c: Course, l: Look, n: usize) -> Course
@@ -116,25 +131,11 @@ pub fn turned(weights: &[f64], c: Course, l: Look, n: usize) -> Course
         return c;
     }
     let tally = c.tally;
-    let g = l.greatest;
-    if n >= 2001 {
+    if n >= 2001 || l.error <= TOLERANCE {
+        let g = l.greatest;
         return formed(false, false, l, g, g, tally);
     }
-    if l.error <= TOLERANCE {
-        return formed(false, false, l, g, g, tally);
-    }
-    let h = bisect(weights, g);
-    if !are_finite(h) {
-        return formed(false, true, l, g, g, tally);
-    }
-    formed(
-        true,
-        false,
-        l,
-        h.left,
-        h.right,
-        tally.bisected().evaluated(15).evaluated(15),
-    )
+    halved(weights, l, tally)
 }
 
 // A record of zeros.
@@ -160,16 +161,13 @@ pub fn room_short() -> Answer
 pub fn found(c: Course) -> Answer
     ensures { λ r. ⌜ r ≡ Found (foundOf c) ⌝ }
 {
-    let tally = c.tally;
     if c.broken {
-        let none = Quadrature::Broken;
-        return Answer::Found(none);
+        return Answer::Found(Quadrature::Broken);
     }
-    let sums = Integral {
+    let tally = c.tally;
+    Answer::Found(Quadrature::Sum(Integral {
         value: c.value,
         error: c.error,
         tally,
-    };
-    let sum = Quadrature::Sum(sums);
-    Answer::Found(sum)
+    }))
 }

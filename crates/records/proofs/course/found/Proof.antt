@@ -5,4 +5,4 @@ use Rattle.records.proofs.course.found.Tie as tie
 pub found-spec : {M : Type 1} → statement M
 found-spec =
     tie.close
-    (tie.spec (λ c. rw (c .if1 .taken)) (λ c. rw (c .if1 .left)))
+    (tie.spec (λ c. rw (c .if1 .taken)) (λ c. rw (c .before .if1 .left)))

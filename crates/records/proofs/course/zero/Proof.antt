@@ -3,8 +3,7 @@ use mathlib.Core.Path.{refl}
 use Rattle.records.proofs.course.zero.Statement.{statement}
 use Rattle.records.proofs.course.zero.Tie as tie
 
-returns : tie.Need-returns
-returns c = refl
-
 pub zero-spec : {M : Type 1} → statement M
-zero-spec = tie.close (tie.spec returns)
+zero-spec =
+    tie.close
+    (tie.spec (λ c. refl))
