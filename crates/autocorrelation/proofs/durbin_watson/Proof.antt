@@ -1,9 +1,12 @@
 -- `durbin_watson` gives what its definition says: at each return the definition is rewritten by the tests that led there. Assumes nothing.
 use Rattle.autocorrelation.specs.Statistic.{durbinWatsonAnswer, ofFound}
+use Rattle.autocorrelation.specs.declared.Statistic.the-variants.{Value, Overflow}
+use Rattle.floats.specs.Words.{_⊘_}
 use Rattle.floats.specs.Search.{firstBad}
 use Rattle.floats.specs.declared.search.Found.{Found}
 use borrow.Author.Tests.{eq-eqb, ne-eqb, not-true, not-false}
 use mathlib.Core.Path.{_≡_}
+use mathlib.Core.Bool.{cond}
 use mathlib.Core.List.{List}
 use lib.Ieee.{Float}
 use lib.ListN.{length}
@@ -41,33 +44,25 @@ returns-5 c =
       not-true (c .before .is-finite .result) (c .if4 .taken),
     )
 
-returns-6 : tie.Need-returns-6
-returns-6 c =
+-- past both sums: what is left hangs on whether the second is finite
+summed : (c : tie.After-is-finite2) → durbinWatsonAnswer (c .before .before .before .before .before .before .before .before .before .before .before .before .args .residuals .now) ≡ cond (c .is-finite2 .result) (Value (c .before .sum-squared-differences .result ⊘ c .before .before .before .before .before .sum-squares .result)) Overflow
+summed c =
     rw (
-      counted _ _ (c .before .before .before .before .before .before .before .before .before .before .before .if1 .left) (c .before .before .before .before .before .before .before .before .before .before .if2 .left) (c .before .before .before .before .before .before .before .before .before .first-bad .ensures),
-      c .before .before .before .before .before .before .before .enum-told .given .1,
-      ← c .before .before .before .before .before .before .sum-squares .ensures,
-      c .before .before .before .before .before .if3 .left,
-      ← c .before .before .before .before .is-finite .ensures,
-      not-false (c .before .before .before .before .is-finite .result) (c .before .before .before .if4 .left),
-      ← c .before .before .sum-squared-differences .ensures,
-      ← c .before .is-finite2 .ensures,
-      not-true (c .before .is-finite2 .result) (c .if5 .taken),
+      counted _ _ (c .before .before .before .before .before .before .before .before .before .before .if1 .left) (c .before .before .before .before .before .before .before .before .before .if2 .left) (c .before .before .before .before .before .before .before .before .first-bad .ensures),
+      c .before .before .before .before .before .before .enum-told .given .1,
+      ← c .before .before .before .before .before .sum-squares .ensures,
+      c .before .before .before .before .if3 .left,
+      ← c .before .before .before .is-finite .ensures,
+      not-false (c .before .before .before .is-finite .result) (c .before .before .if4 .left),
+      ← c .before .sum-squared-differences .ensures,
+      ← c .is-finite2 .ensures,
     )
 
+returns-6 : tie.Need-returns-6
+returns-6 c = rw (summed (c .before), not-true (c .before .is-finite2 .result) (c .if5 .taken))
+
 returns-7 : tie.Need-returns-7
-returns-7 c =
-    rw (
-      counted _ _ (c .before .before .before .before .before .before .before .before .before .before .before .if1 .left) (c .before .before .before .before .before .before .before .before .before .before .if2 .left) (c .before .before .before .before .before .before .before .before .before .first-bad .ensures),
-      c .before .before .before .before .before .before .before .enum-told .given .1,
-      ← c .before .before .before .before .before .before .sum-squares .ensures,
-      c .before .before .before .before .before .if3 .left,
-      ← c .before .before .before .before .is-finite .ensures,
-      not-false (c .before .before .before .before .is-finite .result) (c .before .before .before .if4 .left),
-      ← c .before .before .sum-squared-differences .ensures,
-      ← c .before .is-finite2 .ensures,
-      not-false (c .before .is-finite2 .result) (c .if5 .left),
-    )
+returns-7 c = rw (summed (c .before), not-false (c .before .is-finite2 .result) (c .if5 .left))
 
 pub durbin-watson-spec : {M : Type 1} → statement M
 durbin-watson-spec =
