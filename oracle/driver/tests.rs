@@ -65,6 +65,7 @@ fn answer(head: &Head, residuals: Vec<f64>, columns: Vec<f64>) -> Result<Answer,
         return Ok(Answer { line: Line::refused(number, place), record: None, clears: false, comparable: false });
     }
     let sheet = Sheet {
+        positions: None,
         residuals,
         columns: (0..k).map(|j| columns[j * rows..(j + 1) * rows].to_vec()).collect(),
         alternative: head.alternative,
