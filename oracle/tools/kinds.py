@@ -3,6 +3,7 @@
 Only +, -, *, / and square roots make the numbers, and sums go by loops, so a seed gives the same
 bytes on every machine and every Python 3.
 """
+import itertools
 import math
 import random
 
@@ -305,16 +306,40 @@ SHEETS = {f.__name__: f for f in
 
 
 def mixed(chance, index):
-    """each of the other kinds of sheets in turn"""
+    """each of the kinds above in turn"""
     kinds = list(SHEETS.values())
     return kinds[index % len(kinds)](chance, index // len(kinds))
 
 
+def rising(chance, n):
+    """n positions: from 0 on, from a small number on or across 2^63, by steps of 1, of a few or of any size. Of some of these runs
+    all positions, or the last ones, are moved up so as to end at 2^64 - 1."""
+    widest = chance.one_of([1, 4, 2 ** 32, 2 ** 62 // max(n, 1)])
+    distances = list(itertools.accumulate((chance.between(1, widest) for _ in range(n - 1)), initial=0))
+    first = chance.one_of([0, chance.below(100), 2 ** 63 - chance.between(0, distances[-1])])
+    highest = 2 ** 64 - 1 - distances[-1]
+    moved = chance.one_of([n, n, 0, chance.between(0, n)])
+    return [(first if t < moved else highest) + distances[t] for t in range(n)]
+
+
+def with_positions(chance, entry):
+    entry.positions = rising(chance, len(entry.residuals))
+    return entry
+
+
+def positions(chance, index):
+    """sheets as those of mixed, with print positions: dense or far apart, from 0 on, across 2^63, up to 2^64 - 1"""
+    return with_positions(chance, mixed(chance, index))
+
+
+# What mixed has for a seed must stay, so it goes through SHEETS alone.
+KINDS = dict(SHEETS, mixed=mixed, positions=positions)
+
+
 def entries(kind, chance, count):
     """`count` sheets of a kind."""
-    make = mixed if kind == "mixed" else SHEETS[kind]
     for index in range(count):
-        yield make(chance, index)
+        yield KINDS[kind](chance, index)
 
 
 def files(kind, chance, count):
@@ -328,5 +353,5 @@ def files(kind, chance, count):
 def described():
     """(kind, what it is), for every kind."""
     import damage
-    named = [(name, make.__doc__) for name, make in list(SHEETS.items()) + [("mixed", mixed)]]
+    named = [(name, make.__doc__) for name, make in KINDS.items()]
     return named + [("damaged", damage.files.__doc__.split("\n")[0])]
