@@ -17,11 +17,12 @@ MOST_MATRIX, MOST_PARTS, MOST_NUMBERS = 131080, 8012, 4096
 
 
 class Call:
-    """Residuals and the columns' run as bits, k, the two codes, and the lengths of the rooms."""
+    """Residuals and the columns' run as bits, k, the two codes, and the lengths of the rooms; the positions are a sheet file's alone."""
 
-    def __init__(self, residuals, run, k, alternative, choice, matrix, parts):
+    def __init__(self, residuals, run, k, alternative, choice, matrix, parts, positions=None):
         self.residuals, self.run, self.k = residuals, run, k
         self.alternative, self.choice, self.matrix, self.parts = alternative, choice, matrix, parts
+        self.positions = positions
 
     def bytes(self):
         numbers = self.residuals + self.run
@@ -35,7 +36,7 @@ class Call:
     def entry(self):
         n = len(self.residuals)
         columns = [self.run[j * n:(j + 1) * n] for j in range(self.k)]
-        return Entry(self.residuals, columns, self.alternative, self.choice)
+        return Entry(self.residuals, columns, self.alternative, self.choice, self.positions)
 
     def words(self):
         """In words, for a report."""
