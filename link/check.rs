@@ -42,8 +42,10 @@ fn line(file: &[u8], i: usize) -> String {
     let at = 4 + 16 * i;
     let (offset, n, k) = (number(file, at, 4) as usize, number(file, at + 4, 2) as usize, number(file, at + 6, 2) as usize);
     let (alternative, choice) = (u32::from(file[at + 8]), u32::from(file[at + 9]));
-    let residuals = numbers(file, offset, n);
-    let columns = numbers(file, offset + 8 * n, n * k);
+    // The library gets no positions: with a 1 here, n of them stand before the residuals.
+    let start = offset + 8 * n * usize::from(file[at + 10]);
+    let residuals = numbers(file, start, n);
+    let columns = numbers(file, start + 8 * n, n * k);
     let (mut matrix, mut parts, mut w) = (vec![1.0; 2 * 64 * 64], vec![1.0; 8004], [1; WORDS]);
     let code = test(&residuals, &columns, k, alternative, choice, &mut matrix, &mut parts, &mut w);
     if code != 0 {

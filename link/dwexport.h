@@ -50,7 +50,7 @@ enum {
 
 /* The test of a sheet. Any numbers may be given, NaN and infinities too.
 
-   residuals    in    residuals_len numbers: n, the residuals in order
+   residuals    in    residuals_len numbers: n, the residuals in print order
    columns      in    columns_len numbers: the k columns of the regression one after another, n numbers each; an intercept is a column of ones
    k            in    how many columns
    alternative  in    a code
@@ -69,9 +69,9 @@ enum {
    The function has no heap, keeps nothing between calls and calls nothing but memset and memcpy: threads may call it at once, each
    with a result and rooms of its own. It wants some 40 KB of stack.
 
-   Duties of the caller, which nothing can check: each pointer points to as many numbers as its length says, aligned to 8 bytes, and
-   is not NULL even where the length is 0; matrix, parts and result overlap neither each other nor another run; nothing else writes
-   the runs during the call. */
+   Duties of the caller, which nothing can check: the rows are in print order, which no positions show here; each pointer points to as
+   many numbers as its length says, aligned to 8 bytes, and is not NULL even where the length is 0; matrix, parts and result overlap
+   neither each other nor another run; nothing else writes the runs during the call. */
 uint32_t dwexport_test(const double *residuals, size_t residuals_len,
                        const double *columns, size_t columns_len,
                        size_t k, uint32_t alternative, uint32_t choice,
