@@ -16,9 +16,10 @@ const UNTOUCHED: u64 = 0x1234_5678_9abc_def0;
 
 #[derive(Default)]
 struct Counts {
-    refused: [u64; 8],
+    refused: [u64; 9],
     accepted: u64,
     sheets: u64,
+    positions: u64,
     numbers: u64,
     lines: u64,
 }
@@ -27,7 +28,7 @@ fn agree(what: &str, ours: u64, theirs: u64) -> Result<(), String> {
     if ours == theirs {
         return Ok(());
     }
-    Err(format!("{what}: the port has {ours}, the oracle {theirs}"))
+    Err(format!("{what}: the port has {ours}, where {theirs} is due"))
 }
 
 /// Two numbers are the same value: equal bits, or both a NaN.
@@ -43,7 +44,55 @@ fn same_numbers(what: &str, run: &[f64], theirs: &[f64]) -> Result<(), String> {
     }
 }
 
-fn compare_sheet(file: &[u8], entry: Entry, sheet: &Sheet) -> Result<u64, String> {
+/// Position `t` of an entry read plainly: bytes past the file's end count as 0.
+fn plain_position(file: &[u8], entry: Entry, t: usize) -> u64 {
+    let start = u128::from(entry.offset) + 8 * t as u128;
+    let byte = |at: u128| usize::try_from(at).ok().and_then(|at| file.get(at)).copied().unwrap_or(0);
+    (0..8).map(|b| u64::from(byte(start + b)) << (8 * b)).sum()
+}
+
+/// Any place may be asked for its position: some about the file's end, some about the largest place, and two drawn.
+fn compare_any_positions(file: &[u8], entry: Entry, seed: u64) -> Result<(), String> {
+    let end = file.len().saturating_sub(entry.offset as usize) / 8;
+    for t in [0, end.saturating_sub(1), end, end + 1, usize::MAX / 8, usize::MAX / 8 + 1, usize::MAX, (seed % 256) as usize, seed as usize] {
+        agree("position", sheet::file::position_at(file, entry, t), plain_position(file, entry, t))
+            .map_err(|e| format!("offset {}, place {t}: {e}", entry.offset))?;
+    }
+    Ok(())
+}
+
+/// Any bytes may be asked for any entry, and an entry need not be one of the file's.
+fn compare_any_entry(file: &[u8], i: usize, seed: u64) -> Result<(), String> {
+    let Next::Sheet(entry) = sheet::reader::read_entry(file, i) else {
+        return Ok(());
+    };
+    agree("positions byte", entry.positions.into(), file[4 + 16 * i + 10].into())?;
+    let about_end = (file.len() as u64 + seed % 24).saturating_sub(16) as u32;
+    compare_any_positions(file, entry, seed)?;
+    compare_any_positions(file, Entry { offset: about_end, ..entry }, seed)
+}
+
+fn compare_positions(file: &[u8], entry: Entry, sheet: &Sheet) -> Result<u64, String> {
+    agree("positions byte", entry.positions.into(), sheet.positions.is_some().into())?;
+    let positions = sheet.positions.as_deref().unwrap_or_default();
+    for (t, &theirs) in positions.iter().enumerate() {
+        agree("position", sheet::file::position_at(file, entry, t), theirs).map_err(|e| format!("place {t}: {e}"))?;
+    }
+    Ok(positions.len() as u64)
+}
+
+fn compare_numbers(file: &[u8], entry: Entry, sheet: &Sheet) -> Result<u64, String> {
+    let columns = sheet.columns.concat();
+    let mut run = [f64::from_bits(UNTOUCHED); ROOM];
+    agree("residuals", sheet::file::read_residuals(file, entry, &mut run) as u64, sheet.residuals.len() as u64)?;
+    same_numbers("residual", &run, &sheet.residuals)?;
+    let mut run = [f64::from_bits(UNTOUCHED); ROOM];
+    agree("column numbers", sheet::file::read_columns(file, entry, &mut run) as u64, columns.len() as u64)?;
+    same_numbers("column number", &run, &columns)?;
+    Ok((sheet.residuals.len() + columns.len()) as u64)
+}
+
+fn compare_sheet(file: &[u8], entry: Entry, sheet: &Sheet, counts: &mut Counts) -> Result<(), String> {
     let alternative = match sheet.alternative {
         Alternative::Greater => 0,
         Alternative::Less => 1,
@@ -58,14 +107,10 @@ fn compare_sheet(file: &[u8], entry: Entry, sheet: &Sheet) -> Result<u64, String
     agree("choice", entry.choice.into(), choice)?;
     agree("rows", entry.rows.into(), sheet.residuals.len() as u64)?;
     agree("columns", entry.columns.into(), sheet.columns.len() as u64)?;
-    let columns = sheet.columns.concat();
-    let mut run = [f64::from_bits(UNTOUCHED); ROOM];
-    agree("residuals", sheet::file::read_residuals(file, entry, &mut run) as u64, sheet.residuals.len() as u64)?;
-    same_numbers("residual", &run, &sheet.residuals)?;
-    let mut run = [f64::from_bits(UNTOUCHED); ROOM];
-    agree("column numbers", sheet::file::read_columns(file, entry, &mut run) as u64, columns.len() as u64)?;
-    same_numbers("column number", &run, &columns)?;
-    Ok((sheet.residuals.len() + columns.len()) as u64)
+    counts.positions += compare_positions(file, entry, sheet)?;
+    counts.numbers += compare_numbers(file, entry, sheet)?;
+    counts.sheets += 1;
+    Ok(())
 }
 
 /// The line that the port writes must be `text`, with the rest of the buffer as it was; a buffer one byte short must stay as it was.
@@ -133,7 +178,7 @@ fn compare_file(file: &[u8], counts: &mut Counts) -> Result<(), String> {
             agree("entries", count as u64, sheets.len() as u64)?;
             for (i, sheet) in sheets.iter().enumerate() {
                 match sheet::reader::read_entry(file, i) {
-                    Next::Sheet(entry) => counts.numbers += compare_sheet(file, entry, sheet).map_err(|e| format!("entry {i}: {e}"))?,
+                    Next::Sheet(entry) => compare_sheet(file, entry, sheet, counts).map_err(|e| format!("entry {i}: {e}"))?,
                     Next::End => return Err(format!("entry {i}: the port's reader is at its end")),
                 }
             }
@@ -141,7 +186,6 @@ fn compare_file(file: &[u8], counts: &mut Counts) -> Result<(), String> {
                 return Err("the port's reader goes on past the last entry".to_string());
             }
             counts.accepted += 1;
-            counts.sheets += count as u64;
         }
         (FileCheck::Refused(refusal), Ok(_)) => return Err(format!("the port refuses it with {}, the oracle accepts it", refusal.number())),
         (FileCheck::Accepted(_), Err(theirs)) => return Err(format!("the port accepts it, the oracle refuses it with {}", theirs.number)),
@@ -149,10 +193,7 @@ fn compare_file(file: &[u8], counts: &mut Counts) -> Result<(), String> {
     let seed = file.iter().fold(file.len() as u64, |h, &b| h.wrapping_mul(257).wrapping_add(b.into()));
     compare_fields(seed)?;
     counts.lines += 1;
-    // Any bytes may be asked for any entry.
-    sheet::reader::read_entry(file, (seed % 70) as usize);
-    sheet::reader::read_entry(file, seed as usize);
-    Ok(())
+    [seed % 8, seed % 70, seed].into_iter().try_for_each(|i| compare_any_entry(file, i as usize, seed))
 }
 
 /// The next file of a stream, or None at its end.
@@ -187,7 +228,7 @@ fn main() -> ExitCode {
         Ok(counts) => {
             let refused: u64 = counts.refused.iter().sum();
             println!("{} files, no disagreement", counts.accepted + refused);
-            println!("accepted {}, with {} sheets and {} numbers", counts.accepted, counts.sheets, counts.numbers);
+            println!("accepted {}, with {} sheets, {} positions and {} numbers", counts.accepted, counts.sheets, counts.positions, counts.numbers);
             for (number, count) in counts.refused.iter().enumerate().skip(1) {
                 println!("file refusal {number}: {count}");
             }

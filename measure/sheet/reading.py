@@ -1,4 +1,4 @@
-"""Sheet files read plainly from document 01, apart from the port and from the oracle, and the text that try_sheet prints for them."""
+"""Sheet files read plainly from documents 01 and 02, apart from the port and from the oracle, and the text that try_sheet prints for them."""
 import os
 import struct
 import sys
@@ -25,8 +25,12 @@ class Refused(Exception):
         super().__init__("file %d %d" % (number, index))
 
 
+def rises(words):
+    return all(before < after for before, after in zip(words, words[1:]))
+
+
 def entries(file):
-    """The entries in order, each as (offset, rows, columns, alternative, choice, numbers of the body)."""
+    """The entries in order, each as (offset, rows, columns, alternative, choice, positions byte, words of the body)."""
     if not 4 <= len(file) <= 65536:
         raise Refused(1)
     count, = struct.unpack_from("<I", file)
@@ -37,29 +41,35 @@ def entries(file):
         raise Refused(3)
     found = []
     for index in range(count):
-        offset, rows, columns, alternative, choice, spare = struct.unpack_from("<IHHBB6s", file, 4 + 16 * index)
-        if alternative > 2 or choice > 2 or spare != bytes(6):
+        offset, rows, columns, alternative, choice, positions, spare = struct.unpack_from("<IHHBBB5s", file, 4 + 16 * index)
+        if alternative > 2 or choice > 2 or positions > 1 or spare != bytes(5):
             raise Refused(4, index)
         if offset != due:
             raise Refused(5, index)
-        numbers = rows * (1 + columns)
-        due += 8 * numbers
+        words = rows * (positions + 1 + columns)
+        due += 8 * words
         if due > len(file):
             raise Refused(6, index)
-        body = struct.unpack_from("<%dQ" % numbers, file, offset)
-        found.append((offset, rows, columns, alternative, choice, body))
+        body = struct.unpack_from("<%dQ" % words, file, offset)
+        if positions and not rises(body[:rows]):
+            raise Refused(8, index)
+        found.append((offset, rows, columns, alternative, choice, positions, body))
     if due != len(file):
         raise Refused(7)
     return found
 
 
-def digest(patterns):
-    """Three times the word of those before, and the pattern; every NaN has one pattern."""
-    word = 0
-    for pattern in patterns:
-        is_nan = pattern & 0x7fffffffffffffff > 0x7ff0000000000000
-        word = (3 * word + (ONE_NAN if is_nan else pattern)) % (1 << 64)
-    return word
+def digest(words):
+    """Three times the digest of those before, and the word."""
+    digested = 0
+    for word in words:
+        digested = (3 * digested + word) % (1 << 64)
+    return digested
+
+
+def number_digest(patterns):
+    """The digest of numbers; every NaN has one pattern."""
+    return digest(ONE_NAN if pattern & 0x7fffffffffffffff > 0x7ff0000000000000 else pattern for pattern in patterns)
 
 
 def printed(label, file):
@@ -70,9 +80,11 @@ def printed(label, file):
     except Refused as refusal:
         return "%s%s\n" % (head, refusal)
     lines = []
-    for index, (offset, rows, columns, alternative, choice, body) in enumerate(found):
-        lines.append("%s%d %d %d %016x %016x %d %d %d 0 0 0 0\n" % (
-            head, index, alternative, choice, digest(body[:rows]), digest(body[rows:]), rows, columns, offset))
+    for index, (offset, rows, columns, alternative, choice, positions, body) in enumerate(found):
+        first = rows * positions  # of the residuals
+        lines.append("%s%d %d %d %016x %016x %d %d %d %d %d 0 0\n" % (
+            head, index, alternative, choice, number_digest(body[first:first + rows]), number_digest(body[first + rows:]), rows, columns, offset,
+            positions, digest(body[:first])))
     return "".join(lines)
 
 
