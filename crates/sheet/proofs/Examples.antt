@@ -1,4 +1,4 @@
--- Document 01's whole case, worked out by the definitions themselves: its 164 bytes, what they are read into, damaged copies, and its lines. Assumes nothing.
+-- Document 01's whole case, worked out by the definitions themselves: its 164 bytes, what they are read into, damaged copies, and its lines; and a file with positions. Assumes nothing.
 use Prim.Native.Nat.{ℕ, zero, suc, _/_, _%_}
 use mathlib.Core.Path.{_≡_, refl}
 use mathlib.Core.List.{List, [], _∷_, _++_, map}
@@ -6,11 +6,12 @@ use lib.ListN.{length, take, set}
 use Rattle.floats.specs.Words.{float}
 use Rattle.floats.specs.Bits.{littleEndian}
 use Rattle.floats.specs.Tables.{table}
+use Rattle.floats.specs.Search.{firstWhere}
 use Rattle.sheet.specs.Contents.{entryOf, residualsOf, columnsOf}
-use Rattle.sheet.specs.Reading.{sheets, refused, dueAt, meets, refusalsFrom, firstMet, readFile}
+use Rattle.sheet.specs.Reading.{sheets, refused, dueAt, notRising, meets, refusalsFrom, firstMet, readFile}
 use Rattle.sheet.specs.Lines.{text, digits, widthTo, joined, lineOf, fileLineOf}
 use Rattle.sheet.specs.declared.file.Entry.{Entry}
-use Rattle.sheet.specs.declared.file.FileRefusal.the-variants.{Size, Count, ContentsCut, Codes, Offset, PastEnd, LeftOver}
+use Rattle.sheet.specs.declared.file.FileRefusal.the-variants.{Size, Count, ContentsCut, Codes, Offset, PastEnd, NotRising, LeftOver}
 use Rattle.sheet.specs.declared.lines.Fields.{Fields}
 
 -- k bytes of n, the least first
@@ -19,7 +20,7 @@ bytes zero n = []
 bytes (suc k) n = n % 256 ∷ bytes k (n / 256)
 
 abbrev contents : Entry → List ℕ
-contents e = bytes 4 (e .offset) ++ (bytes 2 (e .rows) ++ (bytes 2 (e .columns) ++ (e .alternative ∷ e .choice ∷ bytes 6 0)))
+contents e = bytes 4 (e .offset) ++ (bytes 2 (e .rows) ++ (bytes 2 (e .columns) ++ (e .alternative ∷ e .choice ∷ e .positions ∷ bytes 5 0)))
 
 -- 1 and -1
 abbrev plus : List ℕ
@@ -29,13 +30,13 @@ abbrev minus : List ℕ
 minus = bytes 8 0xbff0000000000000
 
 abbrev first : Entry
-first = record { offset = 52; rows = 2; columns = 1; alternative = 0; choice = 0 }
+first = record { offset = 52; rows = 2; columns = 1; alternative = 0; choice = 0; positions = 0 }
 
 abbrev second : Entry
-second = record { offset = 84; rows = 4; columns = 1; alternative = 1; choice = 2 }
+second = record { offset = 84; rows = 4; columns = 1; alternative = 1; choice = 2; positions = 0 }
 
 abbrev third : Entry
-third = record { offset = 148; rows = 1; columns = 1; alternative = 0; choice = 0 }
+third = record { offset = 148; rows = 1; columns = 1; alternative = 0; choice = 0; positions = 0 }
 
 unfoldable pub wholeCase : List ℕ
 wholeCase =
@@ -50,7 +51,7 @@ unfolding wholeCase
 whole-length = refl
 
 pub whole-read : readFile wholeCase ≡ sheets (first ∷ second ∷ third ∷ [])
-unfolding wholeCase readFile firstMet meets refusalsFrom dueAt entryOf littleEndian table
+unfolding wholeCase readFile firstMet notRising meets refusalsFrom dueAt entryOf littleEndian table
 whole-read = refl
 
 pub whole-numbers : residualsOf wholeCase second ≡ map float (0x3ff0000000000000 ∷ 0xbff0000000000000 ∷ 0x3ff0000000000000 ∷ 0xbff0000000000000 ∷ [])
@@ -91,10 +92,44 @@ pub damaged-read : map readFile (
     ∷ refused LeftOver
     ∷ refused (Offset 0)
     ∷ []
-unfolding wholeCase readFile firstMet meets refusalsFrom dueAt entryOf littleEndian table
+unfolding wholeCase readFile firstMet notRising meets refusalsFrom dueAt entryOf littleEndian table
 damaged-read = refl
 
--- its three lines
+-- a sheet of two rows with the positions p and q, and behind it one without; read, refused by 8, and with 4 or 6 beside it
+abbrev placed : Entry
+placed = record { offset = 36; rows = 2; columns = 1; alternative = 0; choice = 0; positions = 1 }
+
+abbrev behind : Entry
+behind = record { offset = 84; rows = 1; columns = 1; alternative = 0; choice = 0; positions = 0 }
+
+abbrev positioned : ℕ → ℕ → List ℕ
+positioned p q = bytes 4 2 ++ (contents placed ++ (contents behind ++ (bytes 8 p ++ (bytes 8 q ++ (plus ++ (minus ++ (plus ++ plus)) ++ (plus ++ plus))))))
+
+pub positions-read : map readFile (
+    positioned 5 6
+    ∷ positioned 0x7fffffffffffffff 0x8000000000000000
+    ∷ positioned 5 5
+    ∷ positioned 0xffffffffffffffff 0
+    ∷ set (positioned 5 6) 14 2
+    ∷ set (positioned 5 5) 28 3
+    ∷ take 83 (positioned 5 5)
+    ∷ [])
+    ≡ sheets (placed ∷ behind ∷ [])
+    ∷ sheets (placed ∷ behind ∷ [])
+    ∷ refused (NotRising 0)
+    ∷ refused (NotRising 0)
+    ∷ refused (Codes 0)
+    ∷ refused (NotRising 0)
+    ∷ refused (PastEnd 0)
+    ∷ []
+unfolding readFile firstMet notRising meets refusalsFrom dueAt entryOf littleEndian table firstWhere
+positions-read = refl
+
+pub positioned-numbers : residualsOf (positioned 5 6) placed ≡ map float (0x3ff0000000000000 ∷ 0xbff0000000000000 ∷ [])
+unfolding littleEndian table
+positioned-numbers = refl
+
+-- the whole case's three lines
 abbrev fields : ℕ → ℕ → ℕ → ℕ → ℕ → ℕ → Fields
 fields i refusal d p path settled = record { index = i; refusal = refusal; place = 0; «statistic_bits» = d; «p_bits» = p; path = path; fallback = 0; kept = 0; sweeps = 0; bisections = 0; evaluations = 0; settled = settled }
 
@@ -107,7 +142,7 @@ pub whole-lines : map lineOf (fields 0 0 0x4000000000000000 0x3ff0000000000000 1
 unfolding lineOf joined digits widthTo text
 whole-lines = refl
 
-pub refusal-lines : map fileLineOf (Size ∷ Codes 63 ∷ LeftOver ∷ []) ≡ map text ("file 1 0\n" ∷ "file 4 63\n" ∷ "file 7 0\n" ∷ [])
+pub refusal-lines : map fileLineOf (Size ∷ Codes 63 ∷ NotRising 63 ∷ LeftOver ∷ []) ≡ map text ("file 1 0\n" ∷ "file 4 63\n" ∷ "file 8 63\n" ∷ "file 7 0\n" ∷ [])
 unfolding fileLineOf joined digits widthTo text
 refusal-lines = refl
 

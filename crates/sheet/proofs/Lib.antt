@@ -1,7 +1,10 @@
 pub mod Sizes
+pub mod PastEnd
+pub mod RisingLaws
 pub mod Fronts
 pub mod Order
 pub mod DigitLaws
 pub mod Theorems
+pub mod Positions
 pub mod Examples
 pub mod OneOutcome

@@ -5,7 +5,7 @@ use mathlib.Core.List.{List, _++_}
 use lib.ListN.{drop}
 use lib.Ieee.{Float}
 use denote.Ref.{RefT}
-use Rattle.sheet.specs.Contents.{entryOf, residualsOf, columnsOf}
+use Rattle.sheet.specs.Contents.{entryOf, positionOf, residualsOf, columnsOf}
 use Rattle.sheet.specs.Reading.{readFile, checkOf, numberOf, indexOf, nextOf}
 use Rattle.sheet.specs.Lines.{lineOf, fileLineOf, fronted, frontLength}
 use Rattle.sheet.specs.declared.file.Entry.{Entry}
@@ -25,6 +25,10 @@ module _ (file : List ℕ) where
   -- `entry_at`
   pub one-entry : (i : ℕ) (r s : Entry) → r ≡ entryOf file i → s ≡ entryOf file i → r ≡ s
   one-entry i r s p q = same p q
+
+  -- `position_at`
+  pub one-position : (e : Entry) (t r s : ℕ) → r ≡ positionOf file e t → s ≡ positionOf file e t → r ≡ s
+  one-position e t r s p q = same p q
 
   -- `next_at`, `Reader::entry` and `read_entry`
   pub one-next : (i : ℕ) (r s : Next) → r ≡ nextOf file i → s ≡ nextOf file i → r ≡ s

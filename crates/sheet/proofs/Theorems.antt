@@ -6,9 +6,9 @@ use native.Mathlib.Numerals.{add-one}
 use native.Mathlib.Omega.{arith}
 use mathlib.Core.Path.{_≡_, refl, sym, ap, _∙_}
 use mathlib.Core.Logic.{⊎-elim}
-use mathlib.Core.Bool.{Bool, true, false, cond, _||_, true≢false}
+use mathlib.Core.Bool.{Bool, true, false, not, cond, _&&_, _||_, true≢false}
 use mathlib.Core.List.{List, [], _∷_, _++_}
-use lib.Dec.{ltb}
+use lib.Dec.{eqb, ltb}
 use borrow.Author.Tests.{lt-ltb, le-ltb, le-leb, eq-eqb, ltb-false, eqb-true, not-false}
 use lib.Arith.{digits-lt}
 use lib.ListN.{length, take}
@@ -17,15 +17,17 @@ use lib.Ieee.{Float, nan}
 use Rattle.floats.specs.Words.{_‼_}
 use Rattle.floats.specs.Tables.{table}
 use Rattle.floats.proofs.TableLaws.{length-table, getD-table}
-use Rattle.sheet.specs.Contents.{countOf, entryPlace, entryOf, bodyStart, bodyEnd, bodyNumber, residualsOf, columnsOf}
-use Rattle.sheet.specs.Reading.{Reading, sheets, refused, dueAt, meets, refusalsFrom, refusals, firstMet, readFile, checkOf, nextOf}
+use Rattle.sheet.specs.Contents.{countOf, entryPlace, entryOf, bodyStart, numbersStart, bodyEnd, positionOf, bodyNumber, residualsOf, columnsOf}
+use Rattle.sheet.specs.Rising.{rises, Rising}
+use Rattle.sheet.specs.Reading.{Reading, sheets, refused, dueAt, notRising, meets, refusalsFrom, refusals, firstMet, readFile, checkOf, nextOf}
 use Rattle.sheet.specs.Tiling.{Known, Tiled, NoneMet, MetFirst}
 use Rattle.sheet.specs.declared.file.Entry.{Entry}
 use Rattle.sheet.specs.declared.file.FileRefusal.{FileRefusal}
-use Rattle.sheet.specs.declared.file.FileRefusal.the-variants.{Codes, Offset, PastEnd, LeftOver}
+use Rattle.sheet.specs.declared.file.FileRefusal.the-variants.{Codes, Offset, PastEnd, NotRising, LeftOver}
 use Rattle.sheet.specs.declared.file.FileCheck.the-variants.{Accepted, Refused}
 use Rattle.sheet.specs.declared.file.Next.{Next}
 use Rattle.sheet.specs.declared.file.Next.the-variants.{Sheet, End}
+use Rattle.sheet.proofs.RisingLaws.{rises-each, each-rises}
 
 neither : {f : FileRefusal} {es : List Entry} → refused f ≡ sheets es → ⊥
 neither q = let z : _≡_ {A = ℕ} 0 1 = cc in omega arith
@@ -34,6 +36,13 @@ neither q = let z : _≡_ {A = ℕ} 0 1 = cc in omega arith
 both-fail : (a b : Bool) → a || b ≡ false → (a ≡ false) × (b ≡ false)
 both-fail true b h = absurd (true≢false h)
 both-fail false b h = (refl, h)
+
+-- entry j meets none of an entry's refusals
+record Passed (file : List ℕ) (j : ℕ) : Type 0 where
+  codes : meets file (Codes j) ≡ false
+  offset : meets file (Offset j) ≡ false
+  end : meets file (PastEnd j) ≡ false
+  rising : meets file (NotRising j) ≡ false
 
 module _ (file : List ℕ) where
   -- ---- the first that is met
@@ -69,21 +78,22 @@ module _ (file : List ℕ) where
 
   -- ---- what no refusal met says of each entry
 
-  each-entry : (i left j : ℕ) → NoneMet file (refusalsFrom i left) → i ≤ j → j < i + left → (meets file (Codes j) ≡ false) × (meets file (Offset j) ≡ false) × (meets file (PastEnd j) ≡ false)
+  each-entry : (i left j : ℕ) → NoneMet file (refusalsFrom i left) → i ≤ j → j < i + left → Passed file j
   unfolding refusalsFrom
   each-entry i zero j n a b = absurd (not-suc-le-zero {n = 0} (omega arith))
   each-entry i (suc left) j n a b =
-      ⊎-elim (λ e. rw (← e) (n .0, n .1 .0, n .1 .1 .0)) (λ l. each-entry (i + 1) left j (n .1 .1 .1) (omega arith) (omega arith)) (eq-or-lt-of-le {n = i} {m = j} a)
+      ⊎-elim (λ e. rw (← e) (record { codes = n .0; offset = n .1 .0; end = n .1 .1 .0; rising = n .1 .1 .1 .0 }))
+      (λ l. each-entry (i + 1) left j (n .1 .1 .1 .1) (omega arith) (omega arith)) (eq-or-lt-of-le {n = i} {m = j} a)
 
   the-end : (i left : ℕ) → NoneMet file (refusalsFrom i left) → meets file LeftOver ≡ false
   unfolding refusalsFrom
   the-end i zero n = n .0
-  the-end i (suc left) n = the-end (i + 1) left (n .1 .1 .1)
+  the-end i (suc left) n = the-end (i + 1) left (n .1 .1 .1 .1)
 
-  no-entry : (i left : ℕ) → ((j : ℕ) → j < i + left → (meets file (Codes j) ≡ false) × (meets file (Offset j) ≡ false) × (meets file (PastEnd j) ≡ false)) → meets file LeftOver ≡ false → NoneMet file (refusalsFrom i left)
+  no-entry : (i left : ℕ) → ((j : ℕ) → j < i + left → Passed file j) → meets file LeftOver ≡ false → NoneMet file (refusalsFrom i left)
   unfolding refusalsFrom
   no-entry i zero h e = (e, tt)
-  no-entry i (suc left) h e = let r = h i (omega arith) in (r .0, (r .1, (r .2, no-entry (i + 1) left (λ j l. h j (omega arith)) e)))
+  no-entry i (suc left) h e = let r = h i (omega arith) in (r .codes, (r .offset, (r .end, (r .rising, no-entry (i + 1) left (λ j l. h j (omega arith)) e))))
 
   -- ---- accepted exactly where the entries tile the file
 
@@ -92,15 +102,28 @@ module _ (file : List ℕ) where
   known-by i h =
       let a = both-fail (ltb 2 (entryOf file i .alternative)) _ h in
       let b = both-fail (ltb 2 (entryOf file i .choice)) _ (a .1) in
-      (ltb-false _ _ (a .0), ltb-false _ _ (b .0), eqb-true _ _ (not-false _ (b .1)))
+      let c = both-fail (ltb 1 (entryOf file i .positions)) _ (b .1) in
+      (ltb-false _ _ (a .0), ltb-false _ _ (b .0), ltb-false _ _ (c .0), eqb-true _ _ (not-false _ (c .1)))
 
   codes-by : (i : ℕ) → Known file i → meets file (Codes i) ≡ false
   unfolding meets
-  codes-by i k = rw (le-ltb _ _ (k .0), le-ltb _ _ (k .1), eq-eqb _ _ (k .2))
+  codes-by i k = rw (le-ltb _ _ (k .0), le-ltb _ _ (k .1), le-ltb _ _ (k .2), eq-eqb _ _ (k .3))
 
   offset-by : (i : ℕ) → meets file (Offset i) ≡ false → bodyStart (entryOf file i) ≡ dueAt file i
   unfolding meets
   offset-by i h = eqb-true _ _ (not-false _ h)
+
+  rising-by : (i : ℕ) → meets file (NotRising i) ≡ false → entryOf file i .positions ≡ 1 → Rising (positionOf file (entryOf file i)) (entryOf file i .rows)
+  unfolding meets notRising
+  rising-by i h p = rises-each _ _ (not-false _ (rw (eq-eqb _ _ p) at h))
+
+  none-falls : (i : ℕ) → (entryOf file i .positions ≡ 1 → Rising (positionOf file (entryOf file i)) (entryOf file i .rows)) → meets file (NotRising i) ≡ false
+  unfolding meets notRising
+  none-falls i h = go (eqb (entryOf file i .positions) 1) refl
+    where
+      go : (b : Bool) → eqb (entryOf file i .positions) 1 ≡ b → b && not (rises (positionOf file (entryOf file i)) (entryOf file i .rows)) ≡ false
+      go true e = rw (each-rises (positionOf file (entryOf file i)) (entryOf file i .rows) (h (eqb-true _ _ e)))
+      go false e = refl
 
   due-next : (i : ℕ) → dueAt file (i + 1) ≡ bodyEnd (entryOf file i)
   unfolding dueAt
@@ -115,7 +138,7 @@ module _ (file : List ℕ) where
       let size = both-fail (ltb (length file) 4) _ (n .0) in
       let count = both-fail (ltb (countOf file) 1) _ (n .1 .0) in
       let some : 1 ≤ countOf file = ltb-false _ _ (count .0) in
-      let each : (i : ℕ) → i < countOf file → (meets file (Codes i) ≡ false) × (meets file (Offset i) ≡ false) × (meets file (PastEnd i) ≡ false) = λ i l. each-entry 0 (countOf file) i (n .1 .1 .1) (omega arith) (omega arith) in
+      let each : (i : ℕ) → i < countOf file → Passed file i = λ i l. each-entry 0 (countOf file) i (n .1 .1 .1) (omega arith) (omega arith) in
       record {
         least = ltb-false _ _ (size .0);
         most = ltb-false _ _ (size .1);
@@ -123,10 +146,11 @@ module _ (file : List ℕ) where
         some = some;
         few = ltb-false _ _ (count .1);
         contents = ltb-false _ _ (n .1 .1 .0);
-        known = λ i l. known-by i (each i l .0);
-        first = offset-by 0 (each 0 some .1);
-        next = λ i l. offset-by (i + 1) (each (i + 1) l .1) ∙ due-next i;
-        within = λ i l. ltb-false _ _ (each i l .2);
+        known = λ i l. known-by i (each i l .codes);
+        first = offset-by 0 (each 0 some .offset);
+        next = λ i l. offset-by (i + 1) (each (i + 1) l .offset) ∙ due-next i;
+        within = λ i l. ltb-false _ _ (each i l .end);
+        rising = λ i l. rising-by i (each i l .rising);
         last = sym (due-last some) ∙ eqb-true _ _ (not-false _ (the-end 0 (countOf file) (n .1 .1 .1)));
       }
 
@@ -146,7 +170,7 @@ module _ (file : List ℕ) where
           rw (← c, le-ltb _ _ (t .some), le-ltb _ _ (t .few)),
           (
             rw (← c, le-ltb _ _ (t .contents)),
-            no-entry 0 (countOf file) (λ j l. let k : j < n = omega arith in (codes-by j (t .known j k), rw (eq-eqb _ _ (due-by t j k)), le-ltb _ _ (t .within j k))) (rw (eq-eqb _ _ end)),
+            no-entry 0 (countOf file) (λ j l. let k : j < n = omega arith in record { codes = codes-by j (t .known j k); offset = rw (eq-eqb _ _ (due-by t j k)); end = le-ltb _ _ (t .within j k); rising = none-falls j (t .rising j k) }) (rw (eq-eqb _ _ end)),
           ),
         ),
       )
@@ -199,10 +223,10 @@ reads-end file n t i l = let c = t .count in rw (← c, le-ltb _ _ l)
 
 -- runs of 8,192 numbers hold the residuals and the columns of any entry
 pub body-fits : (file : List ℕ) (n : ℕ) → Tiled file n → (i : ℕ) → i < n → (entryOf file i .rows ≤ 8192) × (entryOf file i .rows * entryOf file i .columns ≤ 8192)
-body-fits file n t i l = go (entryOf file i .rows) (entryOf file i .columns) (t .within i l)
+body-fits file n t i l = go (numbersStart (entryOf file i)) (entryOf file i .rows) (entryOf file i .columns) (t .within i l)
   where
-    go : (r k : ℕ) → entryOf file i .offset + 8 * (r * (k + 1)) ≤ length file → (r ≤ 8192) × (r * k ≤ 8192)
-    go r k h = let m : r * (k + 1) ≡ r * k + r = rw add-one (mul-suc r k) in let b = t .most in (omega arith, omega arith)
+    go : (a r k : ℕ) → a + 8 * (r * (k + 1)) ≤ length file → (r ≤ 8192) × (r * k ≤ 8192)
+    go a r k h = let m : r * (k + 1) ≡ r * k + r = rw add-one (mul-suc r k) in let b = t .most in (omega arith, omega arith)
 
 -- what a caller of `read_entry` learns of the entry that it is given: which it is, that its body lies within the file, and that the runs hold it
 pub entry-read : (file : List ℕ) (n : ℕ) → Tiled file n → (i : ℕ) → i < n → {r : Next} {e : Entry} → r ≡ nextOf file i → r ≡ Sheet e

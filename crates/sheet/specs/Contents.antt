@@ -1,4 +1,4 @@
--- What stands where in a sheet file (document 01, "The sheet program"): contents, a count and 16 bytes an entry, then the bodies.
+-- What stands where in a sheet file (document 01, "The sheet program", and document 02, W-202): contents, a count and 16 bytes an entry, then the bodies.
 -- A file is the list of its bytes, each below 256; a number of k bytes is `littleEndian k file` at its place, the least byte first. Definitions only. Assumes nothing.
 use Prim.Native.Nat.{ℕ, _+_, _*_, _≤_}
 use mathlib.Core.Path.{_≡_}
@@ -17,7 +17,7 @@ countOf file = littleEndian 4 file 0
 abbrev pub entryPlace : ℕ → ℕ
 entryPlace i = 4 + 16 * i
 
--- entry i: offset (4 bytes), rows (2), columns (2), alternative (1), choice (1)
+-- entry i: offset (4 bytes), rows (2), columns (2), alternative (1), choice (1), positions (1)
 unfoldable pub entryOf : List ℕ → ℕ → Entry
 entryOf file i = record {
   offset = littleEndian 4 file (entryPlace i);
@@ -25,26 +25,37 @@ entryOf file i = record {
   columns = littleEndian 2 file (entryPlace i + 6);
   alternative = getD file (entryPlace i + 8) 0;
   choice = getD file (entryPlace i + 9) 0;
+  positions = getD file (entryPlace i + 10) 0;
 }
 
--- its six spare bytes, as one number
+-- its five spare bytes, as one number
 abbrev pub spareOf : List ℕ → ℕ → ℕ
-spareOf file i = littleEndian 6 file (entryPlace i + 10)
+spareOf file i = littleEndian 5 file (entryPlace i + 11)
 
--- a body: n residuals, then the k columns of n, column after column
+-- a body: n positions where the positions byte is 1, then its numbers: n residuals, and the k columns of n, column after column
+abbrev pub positionCount : Entry → ℕ
+positionCount e = e .rows * e .positions
+
 abbrev pub bodyCount : Entry → ℕ
 bodyCount e = e .rows * (e .columns + 1)
 
--- where it begins, and where it ends, at 8 bytes a number
+-- where it begins, where its numbers begin, and where it ends, at 8 bytes a position and a number
 abbrev pub bodyStart : Entry → ℕ
 bodyStart e = e .offset
 
+abbrev pub numbersStart : Entry → ℕ
+numbersStart e = bodyStart e + 8 * positionCount e
+
 abbrev pub bodyEnd : Entry → ℕ
-bodyEnd e = bodyStart e + 8 * bodyCount e
+bodyEnd e = numbersStart e + 8 * bodyCount e
+
+-- position t of a body: a whole number below 2^64
+abbrev pub positionOf : List ℕ → Entry → ℕ → ℕ
+positionOf file e t = littleEndian 8 file (bodyStart e + 8 * t)
 
 -- number t of a body, and `count` of them from number `first` on
 abbrev pub bodyNumber : List ℕ → Entry → ℕ → Float
-bodyNumber file e t = floatAt file (bodyStart e + 8 * t)
+bodyNumber file e t = floatAt file (numbersStart e + 8 * t)
 
 abbrev pub numbersOf : List ℕ → Entry → ℕ → ℕ → List Float
 numbersOf file e first count = table (λ t. bodyNumber file e (first + t)) count

@@ -5,15 +5,16 @@ use mathlib.Core.Path.{_≡_}
 use mathlib.Core.Bool.{true, false}
 use mathlib.Core.List.{List, [], _∷_, _++_}
 use lib.ListN.{length}
-use Rattle.sheet.specs.Contents.{countOf, entryPlace, entryOf, spareOf, bodyStart, bodyEnd}
+use Rattle.sheet.specs.Contents.{countOf, entryPlace, entryOf, spareOf, bodyStart, bodyEnd, positionOf}
+use Rattle.sheet.specs.Rising.{Rising}
 use Rattle.sheet.specs.Reading.{meets}
 use Rattle.sheet.specs.declared.file.FileRefusal.{FileRefusal}
 
--- codes and spare bytes of entry i are as they should be
+-- codes, positions byte and spare bytes of entry i are as they should be
 abbrev pub Known : List ℕ → ℕ → Type 0
-Known file i = (entryOf file i .alternative ≤ 2) × (entryOf file i .choice ≤ 2) × (spareOf file i ≡ 0)
+Known file i = (entryOf file i .alternative ≤ 2) × (entryOf file i .choice ≤ 2) × (entryOf file i .positions ≤ 1) × (spareOf file i ≡ 0)
 
--- a file of n entries, whose contents and bodies tile it: the first body begins where the contents end, each other where the one before it ends, and the last ends with the file
+-- a file of n entries, whose contents and bodies tile it: the first body begins where the contents end, each other where the one before it ends, and the last ends with the file; and the positions of each entry that has them rise
 pub record Tiled (file : List ℕ) (n : ℕ) : Type 0 where
   pub least : 4 ≤ length file
   pub most : length file ≤ 65536
@@ -25,6 +26,7 @@ pub record Tiled (file : List ℕ) (n : ℕ) : Type 0 where
   pub first : bodyStart (entryOf file 0) ≡ entryPlace n
   pub next : (i : ℕ) → i + 1 < n → bodyStart (entryOf file (i + 1)) ≡ bodyEnd (entryOf file i)
   pub within : (i : ℕ) → i < n → bodyEnd (entryOf file i) ≤ length file
+  pub rising : (i : ℕ) → i < n → entryOf file i .positions ≡ 1 → Rising (positionOf file (entryOf file i)) (entryOf file i .rows)
   pub last : bodyEnd (entryOf file (n - 1)) ≡ length file
 
 -- the file meets none of these refusals

@@ -5,21 +5,22 @@ ghost use mathlib.Core.Path.{_≡_};
 ghost use mathlib.Core.List.{_++_};
 ghost use Prim.Native.Nat.{_+_, _*_, _<_, _≤_};
 ghost use lib.ListN.{length, drop};
-ghost use Rattle.sheet.specs.Contents.{countOf, entryPlace, entryOf, bodyEnd, bodyNumber, numbersOf, residualsOf, columnsOf, bodyCount, Counts};
+ghost use Rattle.sheet.specs.Contents.{countOf, entryPlace, entryOf, bodyStart, numbersStart, bodyEnd, positionOf, bodyNumber, numbersOf, residualsOf, columnsOf, bodyCount, Counts};
 ghost use Rattle.sheet.specs.declared.file.FileRefusal.the-variants.{Codes};
-ghost use Rattle.sheet.specs.Reading.{dueAt, meets, entryFault, refusalsFrom, firstMet, readFile, checkOf, numberOf, indexOf, nextOf};
+ghost use Rattle.sheet.specs.Reading.{dueAt, notRising, meets, entryFault, refusalsFrom, firstMet, readFile, checkOf, numberOf, indexOf, nextOf};
 
-// Where one sheet's body begins, its size, and its two codes: alternative 0 greater, 1 less, 2 two-sided; choice 0 default, 1 exact,
-// 2 normal.
+// Where one sheet's body begins, its size, its two codes (alternative 0 greater, 1 less, 2 two-sided; choice 0 default, 1 exact,
+// 2 normal) and its positions byte: with 1 the body opens with the rows' print positions. The bytes stand here as they are in the file.
 pub struct Entry {
     pub offset: u32,
     pub rows: u16,
     pub columns: u16,
     pub alternative: u8,
     pub choice: u8,
+    pub positions: u8,
 }
 
-// Document 01's file refusals 1 to 7, with the entry that met 4, 5 or 6.
+// The file refusals in the order tried, with the entry that met 4, 5, 6 or 8.
 pub enum FileRefusal {
     Size,
     Count,
@@ -27,6 +28,7 @@ pub enum FileRefusal {
     Codes(usize),
     Offset(usize),
     PastEnd(usize),
+    NotRising(usize),
     LeftOver,
 }
 
@@ -48,7 +50,7 @@ enum Fault {
 }
 
 impl FileRefusal {
-    // Document 01's number.
+    // Its number, in document 01 and, for 8, in document 02.
     pub fn number(self) -> u64
         ensures { λ r. ⌜ r ≡ numberOf self ⌝ }
     {
@@ -59,6 +61,7 @@ impl FileRefusal {
             FileRefusal::Codes(_) => 4,
             FileRefusal::Offset(_) => 5,
             FileRefusal::PastEnd(_) => 6,
+            FileRefusal::NotRising(_) => 8,
             FileRefusal::LeftOver => 7,
         }
     }
@@ -71,6 +74,7 @@ impl FileRefusal {
             FileRefusal::Codes(i) => i,
             FileRefusal::Offset(i) => i,
             FileRefusal::PastEnd(i) => i,
+            FileRefusal::NotRising(i) => i,
             FileRefusal::Size => 0,
             FileRefusal::Count => 0,
             FileRefusal::ContentsCut => 0,
@@ -91,17 +95,70 @@ pub fn entry_at(file: &[u8], i: usize) -> Entry
         columns: little_endian(file, at + 6, 2) as u16,
         alternative: file[at + 8],
         choice: file[at + 9],
+        positions: file[at + 10],
     }
 }
 
-// Where an entry says that its body ends: no more than 2^32 + 8 · 65,535 · 65,536.
+// Where an entry's body begins.
+fn body_start(e: Entry) -> usize
+    ensures { λ r. ⌜ r ≡ bodyStart e ⌝ }
+{
+    e.offset as usize
+}
+
+// Where the body's numbers begin, behind its positions: no more than 2^32 + 8 · 65,535 · 255.
+fn numbers_start(e: Entry) -> usize
+    ensures { λ r. ⌜ r ≡ numbersStart e ⌝ }
+{
+    body_start(e) + 8 * (e.rows as usize * e.positions as usize)
+}
+
+// Where an entry says that its body ends: no more than 8 · 65,535 · 65,536 further on.
 fn body_end(e: Entry) -> usize
     ensures { λ r. ⌜ r ≡ bodyEnd e ⌝ }
 {
-    e.offset as usize + 8 * (e.rows as usize * (e.columns as usize + 1))
+    numbers_start(e) + 8 * (e.rows as usize * (e.columns as usize + 1))
 }
 
-// Whether entry `i`, which is `e`, has a code beyond 2 or a spare byte that is not 0.
+// Position `t` of an entry's body. Any entry and any `t` may be asked: bytes past the file's end count as 0.
+pub fn position_at(file: &[u8], e: Entry, t: usize) -> u64
+    ensures { λ r. ⌜ r ≡ positionOf (now (file .entry)) e t ⌝ }
+{
+    let start = body_start(e);
+    if start > file.len() {
+        return 0;
+    }
+    if t > (file.len() - start) / 8 {
+        return 0;
+    }
+    let at = start + 8 * t;
+    let left = file.len() - at;
+    if left < 8 {
+        return little_endian(file, at, left);
+    }
+    little_endian(file, at, 8)
+}
+
+// Whether an entry has positions and one of them is not above the one before it.
+fn not_rising(file: &[u8], e: Entry) -> bool
+    ensures { λ r. ⌜ r ≡ notRising (now (file .entry)) e ⌝ }
+{
+    if e.positions != 1 {
+        return false;
+    }
+    let rows = e.rows as usize;
+    if rows < 2 {
+        return false;
+    }
+    for t in 0..rows - 1 {
+        if position_at(file, e, t + 1) <= position_at(file, e, t) {
+            return true;
+        }
+    }
+    false
+}
+
+// Whether entry `i`, which is `e`, has a code beyond 2, a positions byte beyond 1 or a spare byte that is not 0.
 fn codes_wrong(file: &[u8], i: usize, e: Entry) -> bool
     requires { ⌜ (entryPlace (i + 1) ≤ length (now file)) × (e ≡ entryOf (now file) i) ⌝ }
     ensures { λ r. ⌜ r ≡ meets (now (file .entry)) (Codes i) ⌝ }
@@ -112,7 +169,10 @@ fn codes_wrong(file: &[u8], i: usize, e: Entry) -> bool
     if e.choice > 2 {
         return true;
     }
-    little_endian(file, 4 + 16 * i + 10, 6) != 0
+    if e.positions > 1 {
+        return true;
+    }
+    little_endian(file, 4 + 16 * i + 11, 5) != 0
 }
 
 // What is wrong with entry `i`, which is `e` and whose body is due at `due`.
@@ -128,6 +188,9 @@ fn entry_fault(file: &[u8], i: usize, e: Entry, due: usize) -> Fault
     }
     if body_end(e) > file.len() {
         return Fault::Met(FileRefusal::PastEnd(i));
+    }
+    if not_rising(file, e) {
+        return Fault::Met(FileRefusal::NotRising(i));
     }
     Fault::Sound
 }
@@ -195,7 +258,7 @@ fn body_number(file: &[u8], e: Entry, t: usize) -> f64
     requires { ⌜ (bodyEnd e ≤ length (now file)) × (t < bodyCount e) ⌝ }
     ensures { λ r. ⌜ r ≡ bodyNumber (now (file .entry)) e t ⌝ }
 {
-    float_at(file, e.offset as usize + 8 * t)
+    float_at(file, numbers_start(e) + 8 * t)
 }
 
 // Puts `count` numbers of a body, from number `first` on, at the front of `run`.

@@ -18,11 +18,11 @@ cast-t11 c = omega (arith, bytes-below (c .before .before .before .before .args 
 
 returns : tie.Need-returns
 unfolding entryOf
-returns c = rw (← c .before .before .before .before .little-endian .ensures, ← c .before .before .before .little-endian2 .ensures, ← c .before .before .little-endian3 .ensures)
+returns c = rw (← c .before .before .before .before .before .little-endian .ensures, ← c .before .before .before .before .little-endian2 .ensures, ← c .before .before .before .little-endian3 .ensures)
 
 pub entry-at-spec : {M : Type 1} → statement M
 entry-at-spec =
     tie.close
     (tie.spec (λ c. search needs) (λ c. search needs) (λ c κs. search needs) cast-t6 (λ c. search needs)
     (λ c κs. search needs) cast-t8 (λ c. search needs) (λ c κs. search needs) cast-t11 (λ c. search needs)
-    (λ c. search needs) (λ c. search needs) (λ c. search needs) returns)
+    (λ c. search needs) (λ c. search needs) (λ c. search needs) (λ c. search needs) (λ c. search needs) returns)
