@@ -1,7 +1,8 @@
 // Reads sheet files one after another from standard input and prints what the crate `sheet` makes of each: its label with the file
 // refusal's line, or with one line an entry, in the fields of a sheet's line: index, alternative, choice, digests of the residuals and
-// of the columns, rows, columns, offset, then zeros. The input is made by measure/sheet/stored: for each file its length and how many of
-// its bytes are given (4 bytes each, the least first; those not given are zeros), a label of 24 bytes, and the bytes given.
+// of the columns, rows, columns, offset, positions byte, digest of the positions, then zeros. The input is made by measure/sheet/stored:
+// for each file its length and how many of its bytes are given (4 bytes each, the least first; those not given are zeros), a label of 24
+// bytes, and the bytes given.
 use floats::bits::bits_of;
 use floats::bits::little_endian;
 use libc::STDIN_FILENO;
@@ -17,12 +18,28 @@ ghost use lib.ListN.{length};
 ghost use Rattle.sheet.specs.Contents.{bodyEnd};
 ghost use Rattle.sheet.specs.Tiling.{Tiled};
 
-// A word that depends on each number of a run and on their order: three times the word of those before, and the pattern.
+// A digest is a word that depends on each pattern and on their order: three times the word of those before, and the pattern.
+fn digest_more(word: u64, pattern: u64) -> u64 {
+    let twice = std::num::wrapping_add_u64(word, word);
+    std::num::wrapping_add_u64(std::num::wrapping_add_u64(twice, word), pattern)
+}
+
 fn digest(run: &[f64]) -> u64 {
     let mut word: u64 = 0;
     for t in 0..run.len() {
-        let twice = std::num::wrapping_add_u64(word, word);
-        word = std::num::wrapping_add_u64(std::num::wrapping_add_u64(twice, word), bits_of(run[t]));
+        word = digest_more(word, bits_of(run[t]));
+    }
+    word
+}
+
+// Of an entry's positions; 0 where it has none.
+fn digest_positions(file: &[u8], e: Entry) -> u64 {
+    let mut word: u64 = 0;
+    if e.positions == 0 {
+        return word;
+    }
+    for t in 0..e.rows as usize {
+        word = digest_more(word, sheet::file::position_at(file, e, t));
     }
     word
 }
@@ -60,8 +77,8 @@ fn print_entry(label: &[u8], file: &[u8], i: usize, e: Entry)
             path: e.rows as u64,
             fallback: e.columns as u64,
             kept: e.offset as u64,
-            sweeps: 0,
-            bisections: 0,
+            sweeps: e.positions as u64,
+            bisections: digest_positions(file, e),
             evaluations: 0,
             settled: 0,
         },
