@@ -42,15 +42,16 @@ def files_of(stream):
 
 
 def entries_of(file):
-    """(offset, n, k, alternative) of each entry"""
+    """(where the residuals begin, n, k, alternative) of each entry: behind the body's positions, where it has any"""
     count = struct.unpack_from('<I', file, 0)[0]
-    return [struct.unpack_from('<IHHB', file, 4 + 16 * i) for i in range(count)]
+    found = [struct.unpack_from('<IHHBBB', file, 4 + 16 * i) for i in range(count)]
+    return [(offset + 8 * n * positions, n, k, alternative) for offset, n, k, alternative, _, positions in found]
 
 
 def make_plain(file):
-    for offset, n, _, _ in entries_of(file):
+    for residuals, n, _, _ in entries_of(file):
         for t in range(n):
-            struct.pack_into('<d', file, offset + 8 * t, float(t + 1) * (-1.0) ** t)
+            struct.pack_into('<d', file, residuals + 8 * t, float(t + 1) * (-1.0) ** t)
 
 
 def oracle_answers(text):
@@ -121,9 +122,9 @@ def main():
 
     calls = []
     for file in files:
-        for offset, n, k, alternative in entries_of(file):
+        for residuals, n, k, alternative in entries_of(file):
             fields = said[len(calls)][0]
-            start = offset + 8 * n
+            start = residuals + 8 * n
             head = struct.pack('<QQQQQ', n, k, n * k, alternative, int(fields[3], 16))
             if n * k <= 2056:
                 calls.append(head + bytes(file[start:start + 8 * n * k]))
