@@ -29,7 +29,7 @@ returns-2 c = let z : c .before .before .before .before .before .args .e .rows -
 
 loop-holds : tie.Need-loop-holds Inv-loop μ-loop
 unfolding firstWhere
-loop-holds c = (omega arith, refl, refl)
+loop-holds c = (omega arith, omega arith, refl)
 
 returns-3 : tie.Need-returns-3 Inv-loop μ-loop
 unfolding notRising
