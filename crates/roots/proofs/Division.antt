@@ -1,4 +1,4 @@
--- The whole number nearest to a root, from a guess at its first digits by one division, and from the digits of a root twice as large. Nothing here is about floats.
+-- The whole number nearest to a root, from a good guess at its first digits, by one division and one comparison (`root-is-near`); and the digits of a root twice as large. Nothing here is about floats.
 -- The guess g is near √(4 m), and a is g - 2. What 4 m has above a², `left`, times 2 ^ 24 is b * g and a rest: so √(4 m) * 2 ^ 25 is near c = a * 2 ^ 25 + b, and
 -- m * 2 ^ 52 - c² is b * (2 ^ 27 - b) and 2 ^ 26 rests. That is not negative, and at most 3 c + 2: so c is nearest, or c + 1. Assumes nothing.
 use mathlib.Core.Path.{_≡_, sym, ap, _∙_}
@@ -7,24 +7,8 @@ use Prim.Native.Nat.{ℕ, _+_, _-_, _*_, _/_, _%_, _^_, _≤_, _<_}
 use native.Mathlib.Nat.{mul-add, lt-of-mul-lt-mul-right, div-add-mod', mod-lt}
 use native.Mathlib.Omega.{arith}
 use Rattle.roots.specs.Root.{IsRoot, NearRoot}
+use Rattle.roots.specs.Lines.{Good}
 use Rattle.roots.proofs.Squares.{side}
-
--- ---- the division, both sides 2 ^ 7 times as large
-abbrev pub quotient : ℕ → ℕ → ℕ
-quotient g left = left * 2 ^ 31 / (128 * g)
-
-abbrev pub rest : ℕ → ℕ → ℕ
-rest g left = left * 2 ^ 31 % (128 * g)
-
-module _ (g left : ℕ) (from : 2 ^ 27 ≤ g) (less : left < 8 * g) where
-  pub parts : quotient g left * (128 * g) + rest g left ≡ left * 2 ^ 31
-  parts = div-add-mod' (left * 2 ^ 31) (128 * g)
-
-  pub rest-below : rest g left < 128 * g
-  rest-below = mod-lt (left * 2 ^ 31) (omega arith)
-
-  pub quotient-below : quotient g left < 2 ^ 27
-  quotient-below = lt-of-mul-lt-mul-right (128 * g) (omega (arith, parts))
 
 -- (b - (2 ^ 26 - 1)) * (b - (2 ^ 26 - 2)) is not negative
 between : (b : ℕ) → (2 ^ 27 - 3) * b ≤ b * b + (2 ^ 26 - 1) * (2 ^ 26 - 2)
@@ -43,32 +27,59 @@ test b rest = b * (2 ^ 27 - 1 - b) + rest * 2 ^ 19
 cut : (b : ℕ) → b < 2 ^ 27 → b * (2 ^ 27 - 1 - b) + b * b ≡ b * (2 ^ 27 - 1)
 cut b h = let e : 2 ^ 27 - 1 - b + b ≡ 2 ^ 27 - 1 = omega arith in sym (mul-add b (2 ^ 27 - 1 - b) b) ∙ ap (λ (x : ℕ). b * x) e
 
-pub test-below : (g b rest : ℕ) → g < 2 ^ 30 → b < 2 ^ 27 → rest < 128 * g → (b * (2 ^ 27 - 1 - b) < 2 ^ 54) × (test b rest < 2 ^ 57)
-test-below g b rest k h l = (omega (arith, cut b h), omega (arith, cut b h))
-
 -- ---- c is nearest, or the next number
-module _ (m g a b left rest : ℕ) (from : 2 ^ 27 ≤ g) (two : g ≡ a + 2) (some : 4 * m ≡ a * a + left) (parts : b * (128 * g) + rest ≡ left * 2 ^ 31) (less : rest < 128 * g) (few : b < 2 ^ 27) where
-  spread : b * (128 * (a + 2)) + rest ≡ left * 2 ^ 31
-  spread = rw (← two) parts
+module _ (m a b left rest : ℕ) (some : 4 * m ≡ a * a + left) (parts : b * (128 * (a + 2)) + rest ≡ left * 2 ^ 31) (less : rest < 128 * (a + 2)) (few : b < 2 ^ 27) (large : 2 ^ 27 ≤ a + 2) where
+  this : test b rest ≤ a * 2 ^ 25 → NearRoot (m * 2 ^ 52) (a * 2 ^ 25 + b)
+  this h = record { low = omega (arith, some, parts, cut b few); high = omega (arith, some, parts, cut b few) }
 
-  pub this : test b rest ≤ a * 2 ^ 25 → NearRoot (m * 2 ^ 52) (a * 2 ^ 25 + b)
-  this h = record { low = omega (arith, some, spread, cut b few); high = omega (arith, some, spread, cut b few) }
+  next : a * 2 ^ 25 < test b rest → NearRoot (m * 2 ^ 52) (a * 2 ^ 25 + b + 1)
+  next h = record { low = omega (arith, some, parts, cut b few); high = omega (arith, some, parts, cut b few, between b) }
 
-  pub next : a * 2 ^ 25 < test b rest → NearRoot (m * 2 ^ 52) (a * 2 ^ 25 + b + 1)
-  next h = record { low = omega (arith, some, spread, cut b few); high = omega (arith, some, spread, cut b few, between b) }
+-- ---- the division, both sides 2 ^ 7 times as large
+module _ (m g : ℕ) (good : Good m g) where
+  abbrev a : ℕ
+  a = g - 2
+
+  abbrev left : ℕ
+  left = 4 * m - a * a
+
+  abbrev b : ℕ
+  b = left * 2 ^ 31 / (128 * g)
+
+  abbrev rest : ℕ
+  rest = left * 2 ^ 31 % (128 * g)
+
+  two : a + 2 ≡ g
+  two = omega (arith, good .from)
+
+  some : 4 * m ≡ a * a + left
+  some = omega (arith, good .low)
+
+  pub left-below : left < 8 * g
+  left-below = let h : 4 * m < (a + 2 + 2) * (a + 2 + 2) = rw two (good .high) in omega (arith, h, some)
+
+  parts : b * (128 * g) + rest ≡ left * 2 ^ 31
+  parts = div-add-mod' (left * 2 ^ 31) (128 * g)
+
+  pub rest-below : rest < 128 * g
+  rest-below = mod-lt (left * 2 ^ 31) (omega (arith, good .from))
+
+  pub quotient-below : b < 2 ^ 27
+  quotient-below = lt-of-mul-lt-mul-right (128 * g) (omega (arith, parts, left-below))
+
+  pub test-below : (b * (2 ^ 27 - 1 - b) < 2 ^ 54) × (test b rest < 2 ^ 55)
+  test-below = let c = cut b quotient-below in (omega (arith, c, quotient-below), omega (arith, c, quotient-below, rest-below, good .below))
+
+  pub root-is-near : (test b rest ≤ a * 2 ^ 25 → NearRoot (m * 2 ^ 52) (a * 2 ^ 25 + b)) × (a * 2 ^ 25 < test b rest → NearRoot (m * 2 ^ 52) (a * 2 ^ 25 + b + 1))
+  root-is-near =
+      let p : b * (128 * (a + 2)) + rest ≡ left * 2 ^ 31 = rw two parts in
+      let l : rest < 128 * (a + 2) = rw two rest-below in
+      let f : 2 ^ 27 ≤ a + 2 = rw two (good .from) in
+      (this m a b left rest some p l quotient-below f, next m a b left rest some p l quotient-below f)
 
 -- ---- between a root and one twice as large
 none : {n : ℕ} (c : ℕ) → c ≡ 0 → 0 < n → c * c < n + c
 none c e p = let s : c * c ≡ 0 * c = ap (λ (x : ℕ). x * c) e in omega (arith, s)
-
-pub halved : (n q : ℕ) → 0 < n → IsRoot (4 * n) q → NearRoot n ((q + 1) / 2)
-halved n q p r = elim (side (q % 2) 1) [ inl h ↦ even ((q + 1) / 2) (omega arith) | inr h ↦ odd ((q + 1) / 2) (omega arith) ]
-  where
-    even : (c : ℕ) → q ≡ 2 * c → NearRoot n c
-    even c e = let s : q * q ≡ 2 * c * (2 * c) = ap (λ (x : ℕ). x * x) e in record { low = elim (side c 1) [ inl z ↦ none c (omega arith) p | inr z ↦ omega (arith, s, r .low) ]; high = omega (arith, s, r .high) }
-
-    odd : (c : ℕ) → q + 1 ≡ 2 * c → NearRoot n c
-    odd c e = let s : (q + 1) * (q + 1) ≡ 2 * c * (2 * c) = ap (λ (x : ℕ). x * x) e in record { low = omega (arith, s, r .low); high = omega (arith, s, r .high) }
 
 -- the root twice as large of one whose nearest number is c
 pub record Doubled (n c : ℕ) : Type 0 where

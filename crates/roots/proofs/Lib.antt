@@ -1,6 +1,7 @@
 pub mod Squares
-pub mod Division
+pub mod LineLaws
 pub mod Guess
+pub mod Division
 pub mod Ladder
 pub mod Rounding
 pub mod Assemble

@@ -1,3 +1,4 @@
 pub mod Root
+pub mod Lines
 pub mod Nearest
 pub mod Hypot

@@ -1,43 +1,20 @@
-// Roots of whole numbers: the first digits by a line and a division, the others by a second division. Nothing is claimed of the first
-// ones; where they are no good, the root is worked out digit by digit.
+// Roots of whole numbers: the first digits by a line and a division, the others by a second division. There is no loop.
 use super::lines::slope;
 use super::lines::start;
 ghost use mathlib.Core.Path.{_≡_};
 ghost use Prim.Native.Nat.{_+_, _*_, _/_, _%_, _^_, _≤_, _<_};
-ghost use Rattle.roots.specs.Root.{IsRoot, NearRoot, RootBits, rootOf};
+ghost use Rattle.roots.specs.Lines.{Good, InPart};
+ghost use Rattle.roots.specs.Root.{NearRoot, RootBits, rootOf};
 
-// 2^52, the weight of the leading digit, which a pattern leaves out; and 2^63, the highest bit.
+// 2^52, the weight of the leading digit, which a pattern leaves out.
 pub const LEADING: u64 = 0x10_0000_0000_0000;
 
-const HIGHEST: u64 = 0x8000_0000_0000_0000;
-
-// The whole part of √(m * 2^54), a digit at a turn. q is a multiple of `unit`, and twice what is
-// left of the number above q * q is `left` units. The next digit is 1 where `step` is not above
-// `left`. It is worked out by a carry into the highest bit: a branch on it is guessed wrong half
-// the time.
-fn root_by_digits(m: u64) -> u64
-    requires { ⌜ m < 2 ^ 54 ⌝ }
-    ensures { λ q. ⌜ IsRoot (m * 2 ^ 54) q ⌝ }
-{
-    let mut q: u64 = 0;
-    let mut left = 2 * m;
-    let mut unit: u64 = 0x40_0000_0000_0000;
-    while 1 < unit {
-        unit = unit / 2;
-        let step = 2 * q + unit;
-        let digit = (left + HIGHEST - step) / HIGHEST;
-        left = 2 * left - 2 * step * digit;
-        q = q + unit * digit;
-    }
-    q
-}
-
-// A guess at √(4 * m), of some 28 digits: a line near it, 2^5 times as large, and a round of Heron's method. It is good where that root
-// lies from g - 2 to g + 2. Nothing is claimed of it, but for each of four million m that were tried it lay from g - 0.4 to g + 1.1. The
-// ^ and the | change nothing that counts: the compiler sees by them that the divisions are of long numbers, and tests for no short ones.
+// A guess at √(4 * m), of 28 digits: a line near it, 2^5 times as large, and a round of Heron's method. It is within 2 of that root, for
+// every m (proofs/Guess.antt). The ^ and the | change nothing that counts: the compiler sees by them that the divisions are of long
+// numbers, and tests for no short ones.
 fn guess(m: u64, part: u64) -> u64
-    requires { ⌜ m < 2 ^ 54 ⌝ }
-    ensures { λ g. ⌜ (2 ^ 27 ≤ g) × (g < 2 ^ 30) ⌝ }
+    requires { ⌜ InPart m part ⌝ }
+    ensures { λ g. ⌜ Good m g ⌝ }
 {
     let u = start(part) + slope(part) * m / 0x8000_0000;
     let q = (m ^ 1) * 1024 / u;
@@ -48,26 +25,21 @@ fn guess(m: u64, part: u64) -> u64
 // what the root has above a. 2^25 times as large that is b, so the number is near c = a * 2^25 + b; the division is of numbers 2^7
 // times as large. m * 2^52 - c² is b * (2^27 - b) and 2^19 times the rest of it. Where that is more than c, the next number is nearer.
 fn root(m: u64, part: u64) -> u64
-    requires { ⌜ (0 < m) × (m < 2 ^ 54) ⌝ }
+    requires { ⌜ InPart m part ⌝ }
     ensures { λ c. ⌜ NearRoot (m * 2 ^ 52) c ⌝ }
 {
     let g = guess(m, part);
     let a = g - 2;
-    if a * a <= 4 * m {
-        let left = 4 * m - a * a;
-        if left < 8 * g {
-            let wide = 128 * g;
-            let long = left * 0x8000_0000;
-            let b = long / wide;
-            let rest = long % wide;
-            let c = a * 0x200_0000 + b;
-            if a * 0x200_0000 < b * (0x7ff_ffff - b) + rest * 0x8_0000 {
-                return c + 1;
-            }
-            return c;
-        }
+    let left = 4 * m - a * a;
+    let wide = 128 * g;
+    let long = left * 0x8000_0000;
+    let b = long / wide;
+    let rest = long % wide;
+    let c = a * 0x200_0000 + b;
+    if a * 0x200_0000 < b * (0x7ff_ffff - b) + rest * 0x8_0000 {
+        return c + 1;
     }
-    (root_by_digits(m) + 1) / 2
+    c
 }
 
 const TWICE: u64 = 0x20_0000_0000_0000; // 2^53

@@ -1,10 +1,13 @@
 // Lines near 2^6 * √m, one for each of the 32 parts of m's range: 16 equal ones of 2^52 to 2^53, and 16 of 2^53 to 2^54. None is off by
 // more than 2^-13.9 of the root. measure/roots/lines.py makes them.
-ghost use Prim.Native.Nat.{_^_, _≤_, _<_};
+ghost use mathlib.Core.Path.{_≡_};
+ghost use Prim.Native.Nat.{_<_};
+ghost use Rattle.roots.specs.Lines.{startOf, slopeOf};
 
 // Where the line would be at 0.
 pub fn start(part: u64) -> u64
-    ensures { λ r. ⌜ (2 ^ 31 ≤ r) × (r < 2 ^ 32) ⌝ }
+    requires { ⌜ part < 32 ⌝ }
+    ensures { λ r. ⌜ r ≡ startOf part ⌝ }
 {
     match part {
         0 => 0x8204_1000,
@@ -44,7 +47,8 @@ pub fn start(part: u64) -> u64
 
 // Its slope, 2^31 times as large.
 pub fn slope(part: u64) -> u64
-    ensures { λ r. ⌜ r < 2 ^ 10 ⌝ }
+    requires { ⌜ part < 32 ⌝ }
+    ensures { λ r. ⌜ r ≡ slopeOf part ⌝ }
 {
     match part {
         0 => 1008,

@@ -1,49 +1,68 @@
-use borrow.Author.Needs.{needs}
-use Prim.Native.Nat.{ℕ, _+_, _*_, _/_, _^_, _<_}
+-- `guess`: that it is good is Guess.antt's; here, that nothing overflows.
+use mathlib.Core.Path.{_≡_, sym, ap, subst, _∙_}
+use Prim.Native.Nat.{ℕ, _+_, _*_, _/_, _^_, _≤_, _<_}
+use native.Mathlib.Nat.{mul-le-mul-right}
 use native.Mathlib.Omega.{arith}
-use lib.Bits.{bitXor}
-use Rattle.roots.proofs.Guess.{rise-below, flipped, quotient, marked}
+use lib.Bits.{bitOr, bitXor}
+use Rattle.roots.specs.Lines.{Good, InPart, startOf}
+use Rattle.roots.proofs.LineLaws.{lineOf, part-below, slope-below, line-inside}
+use Rattle.roots.proofs.Guess.{turned-below, marked, guessOf, sum-range, guess-is-good}
 use Rattle.roots.proofs.digits.guess.Statement.{statement}
 use Rattle.roots.proofs.digits.guess.Tie as tie
 
 -- past the two entries of the table
-abbrev rise : tie.After-slope → ℕ
-rise c = c .slope .result * c .before .before .args .m
+module _ (c : tie.After-slope) where
+  abbrev m : ℕ
+  m = c .before .before .args .m
 
-abbrev line : tie.After-slope → ℕ
-line c = c .before .start .result + rise c / 2 ^ 31
+  abbrev p : ℕ
+  p = c .before .before .args .part
 
-risen : (c : tie.After-slope) → rise c < 2 ^ 64
-risen c = rise-below (c .slope .result) (c .before .before .args .m) (c .slope .ensures) (c .before .before .pre)
+  abbrev u : ℕ
+  u = c .before .start .result + c .slope .result * m / 2 ^ 31
 
-low : (c : tie.After-slope) → bitXor (c .before .before .args .m) 1 < 2 ^ 54
-low c = flipped (c .before .before .args .m) (c .before .before .pre)
+  at : InPart m p
+  at = c .before .before .pre
 
-divided : (c : tie.After-slope) → bitXor (c .before .before .args .m) 1 * 1024 / line c < 2 ^ 33
-divided c = quotient (bitXor (c .before .before .args .m) 1 * 1024) (line c) (omega (arith, low c)) (omega (arith, c .before .start .ensures .0))
+  line : u ≡ lineOf p m
+  line = ap (λ (x : ℕ). x + c .slope .result * m / 2 ^ 31) (c .before .start .ensures) ∙ ap (λ (x : ℕ). startOf p + x * m / 2 ^ 31) (c .slope .ensures)
+
+  rise : c .slope .result * m < 2 ^ 64
+  rise =
+      let k : c .slope .result ≤ 2 ^ 10 = rw (c .slope .ensures) (slope-below m p at) in
+      omega (arith, mul-le-mul-right m k, at .below)
+
+  range : (2 ^ 32 ≤ u) × (u ≤ 2 ^ 33)
+  range = let i = line-inside m p at in (omega (arith, line, i .from), omega (arith, line, i .most))
+
+  sum : u + 4 * (bitXor m 1 * 1024 / u) < 2 ^ 34
+  sum = rw line (sum-range m p at .1)
 
 mul-u : tie.Need-mul-u
-mul-u c = record { fits = risen c }
+mul-u c = record { fits = rise c }
 
 add-u : tie.Need-add-u
-add-u c = omega (arith, risen c, c .before .start .ensures .1)
+add-u c = omega (arith, range c)
 
 mul-q : tie.Need-mul-q
-mul-q c = omega (arith, low c)
+mul-q c = omega (arith, turned-below (m c) (p c) (at c))
 
 div-q : tie.Need-div-q
-div-q c = omega (arith, c .before .start .ensures .0)
+div-q c = omega (arith, range c)
 
 mul-result : tie.Need-mul-result
-mul-result c = omega (arith, divided c)
+mul-result c = omega (arith, sum c)
 
 add-result : tie.Need-add-result
-add-result c = omega (arith, divided c, risen c, c .before .start .ensures .1)
+add-result c = omega (arith, sum c)
 
 returns : tie.Need-returns
-returns c = marked ((line c + 4 * (bitXor (c .before .before .args .m) 1 * 1024 / line c)) / 64) (omega (arith, divided c, risen c, c .before .start .ensures .1))
+returns c =
+    let g = guess-is-good (m c) (p c) (at c) in
+    let e : bitOr ((u c + 4 * (bitXor (m c) 1 * 1024 / u c)) / 64) (2 ^ 27) ≡ guessOf (p c) (m c) = rw (line c) (marked (guessOf (p c) (m c)) (g .from) (g .below)) in
+    subst (Good (m c)) (sym e) g
 
 pub guess-spec : {M : Type 1} → statement M
 guess-spec =
     tie.close
-    (tie.spec (λ c κs. search needs) (λ c κs. search needs) mul-u add-u mul-q div-q mul-result add-result returns)
+    (tie.spec (λ c κs. part-below (c .args .m) (c .args .part) (c .pre)) (λ c κs. part-below (c .before .args .m) (c .before .args .part) (c .before .pre)) mul-u add-u mul-q div-q mul-result add-result returns)

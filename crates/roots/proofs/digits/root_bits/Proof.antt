@@ -1,9 +1,11 @@
 use borrow.Author.Needs.{needs}
 use mathlib.Core.Path.{_≡_, ap}
-use mathlib.Core.Logic.{inl, inr}
-use Prim.Native.Nat.{ℕ, _+_, _*_, _/_, _%_, _^_, _<_}
+use mathlib.Core.Logic.{_⊎_, inl, inr}
+use Prim.Native.Nat.{ℕ, _+_, _*_, _/_, _%_, _^_, _≤_, _<_}
 use native.Mathlib.Omega.{arith}
-use Rattle.roots.proofs.Assemble.{shared, wide, c-below, written}
+use borrow.Author.Tests.{lt-ltb, le-ltb}
+use Rattle.roots.specs.Lines.{InPart}
+use Rattle.roots.proofs.Assemble.{shared, c-below, written}
 use Rattle.roots.proofs.digits.root_bits.Statement.{statement}
 use Rattle.roots.proofs.digits.root_bits.Tie as tie
 
@@ -11,20 +13,28 @@ use Rattle.roots.proofs.digits.root_bits.Tie as tie
 abbrev m : tie.Joined1 → ℕ
 m c = c .before .args .w % 2 ^ 53 + c .if1 .top
 
+-- by y, what w has below its exponent's even part
+ways : (c : tie.Joined1) → let y = c .before .args .w % 2 ^ 53 in ((y < 2 ^ 52) × (m c ≡ y + 2 ^ 52)) ⊎ ((2 ^ 52 ≤ y) × (m c ≡ y + y))
+ways c = let y = c .before .args .w % 2 ^ 53 in elim (c .if1 .came) [ inl h ↦ inl (h .0 .taken, ap (λ (x : ℕ). y + x) (h .1)) | inr h ↦ inr (h .0 .left, ap (λ (x : ℕ). y + x) (h .1)) ]
+
 abbrev Same : tie.Joined1 → Type 0
 Same c = let w = c .before .args .w in m c ≡ (2 ^ 52 + w % 2 ^ 52) * (1 + (w / 2 ^ 52 + 52) % 2)
 
 same : (c : tie.Joined1) → Same c
-same c = let w = c .before .args .w in shared w (m c) (elim (c .if1 .came) [ inl h ↦ inl (h .0 .taken, ap (λ (x : ℕ). w % 2 ^ 53 + x) (h .1)) | inr h ↦ inr (h .0 .left, ap (λ (x : ℕ). w % 2 ^ 53 + x) (h .1)) ])
+same c = shared (c .before .args .w) (m c) (ways c)
 
-range : (c : tie.Joined1) → (0 < m c) × (m c < 2 ^ 54)
-range c = let w = c .before .args .w in let h = wide (2 ^ 52 + w % 2 ^ 52) (w / 2 ^ 52 + 52) in (omega (arith, same c, h), omega (arith, same c, h))
+-- which part it lies in
+at : (c : tie.Joined1) → InPart (m c) (c .before .args .w % 2 ^ 53 / 2 ^ 48)
+at c = elim (ways c) [
+  | inl e ↦ record { from = omega (arith, e); below = omega (arith, e); part = rw (lt-ltb (m c) (2 ^ 53) (omega (arith, e))) (omega (arith, e)) }
+  | inr e ↦ record { from = omega (arith, e); below = omega (arith, e); part = rw (le-ltb (m c) (2 ^ 53) (omega (arith, e))) (omega (arith, e)) }
+]
 
 add-root : tie.Need-add-root
-add-root c = omega (arith, range (c .before))
+add-root c = omega (arith, at (c .before) .below)
 
 root-requires : tie.Need-root-requires
-root-requires c κs = range (c .before)
+root-requires c κs = at (c .before)
 
 add-result : tie.Need-add-result
 add-result c =
