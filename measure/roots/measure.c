@@ -16,7 +16,8 @@ double port_hypot(double, double);
 static double of_bits(uint64_t b) { double x; memcpy(&x, &b, 8); return x; }
 static uint64_t bits_of(double x) { uint64_t b; memcpy(&b, &x, 8); return b; }
 
-// xorshift64*, from one seed: two runs draw the same points.
+// xorshift64*, from one seed: two runs draw the same points, on every machine. C leaves open which part of an expression comes first, so each
+// draw is a statement of its own.
 static uint64_t state = 88172645463325252ULL;
 static uint64_t draw(void) {
     state ^= state >> 12;
@@ -27,10 +28,24 @@ static uint64_t draw(void) {
 static double uniform(double from, double to) { return from + (to - from) * ((draw() >> 11) * 0x1p-53); }
 static double sign(void) { return draw() & 1 ? 1.0 : -1.0; }
 // A number whose exponent is one of from to to, any of them alike.
-static double scaled(int from, int to) { return sign() * ldexp(uniform(1, 2), from + (int)(draw() % (unsigned)(to - from + 1))); }
+static double scaled(int from, int to) {
+    double s = sign(), digits = uniform(1, 2);
+    return s * ldexp(digits, from + (int)(draw() % (unsigned)(to - from + 1)));
+}
 // Any finite number, every pattern alike.
-static double any(void) { return sign() * of_bits(draw() % 0x7ff0000000000000ULL); }
-static double subnormal(void) { return sign() * of_bits(draw() % (1ULL << (1 + draw() % 52))); }
+static double any(void) {
+    double s = sign();
+    return s * of_bits(draw() % 0x7ff0000000000000ULL);
+}
+// A pattern of up to 52 digits.
+static uint64_t few_digits(void) {
+    uint64_t most = 1ULL << (1 + draw() % 52);
+    return draw() % most;
+}
+static double subnormal(void) {
+    double s = sign();
+    return s * of_bits(few_digits());
+}
 
 // ---- sqrt
 
@@ -47,7 +62,7 @@ static void measure_roots(long count) {
     for (long i = 0; i < count; i++) {
         root(draw());                                                   // any pattern, NaNs and negative numbers too
         root(draw() % 0x7ff0000000000000ULL);                           // any finite number from 0 up
-        root(draw() % (1ULL << (1 + draw() % 52)));                     // subnormal
+        root(few_digits());                                             // subnormal
         double q = uniform(1, 2);                                       // a square of 53 digits, and its neighbours
         uint64_t s = bits_of(q * q) + draw() % 3 - 1;
         root(s);

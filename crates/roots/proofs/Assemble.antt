@@ -56,7 +56,7 @@ parts m s h =
 pub wide : (m s : ℕ) → (m ≤ m * (1 + s % 2)) × (m * (1 + s % 2) ≤ 2 * m)
 wide m s = let h : s % 2 ≤ 1 = omega arith in omega (arith, mul-le-mul-left m h)
 
-pub q-below : (d q : ℕ) → d < 2 ^ 54 → IsRoot (d * 2 ^ 54) q → q < 2 ^ 54
+q-below : (d q : ℕ) → d < 2 ^ 54 → IsRoot (d * 2 ^ 54) q → q < 2 ^ 54
 q-below d q h r = root-lt (2 ^ 54) r (mul-lt-mul-of-pos-right h (lit< tt))
 
 -- ---- the bits: d has 53 or 54 digits, q is the 54 of its root, and 2 ^ g is the weight of the last

@@ -14,7 +14,7 @@ use Rattle.roots.proofs.Squares.{side, gap, sum-square}
 use Rattle.roots.proofs.LineLaws.{lineOf, NearLine, Inside, line-is-near, line-inside}
 
 -- ---- the digits that the ^ and the | touch
-pub turned : (m : ℕ) → bitXor m 1 + m % 2 * 2 ≡ m + 1
+turned : (m : ℕ) → bitXor m 1 + m % 2 * 2 ≡ m + 1
 turned m = omega (arith, xor-add-and m 1, and-mask m 1)
 
 pub marked : (x : ℕ) → 2 ^ 27 ≤ x → x < 2 ^ 28 → bitOr x (2 ^ 27) ≡ x
@@ -95,7 +95,7 @@ module _ (m p : ℕ) (i : InPart m p) where
   more : 2 ^ 10 * n < u * (q + 1)
   more = let z : 0 < u = omega (arith, line-inside m p i .from) in omega (arith, div-add-mod' (n * 1024) u, mod-lt (n * 1024) z)
 
-  pub turned-from : 2 ^ 52 ≤ n
+  turned-from : 2 ^ 52 ≤ n
   turned-from = omega (arith, turned m, i .from)
 
   pub turned-below : n < 2 ^ 54

@@ -25,7 +25,7 @@ pub record NearLine (m u : ℕ) : Type 0 where
   pub above : 2 ^ 12 * m ≤ u * u + 2 ^ 20 * u
   pub under : u * u ≤ 2 ^ 12 * m + 2 ^ 20 * u
 
--- u lies within its range: above 2 ^ 32, where the root is from 2 ^ 32 up, and at most 2 ^ 33, but not below the chord that ends at 2 ^ 33 with the slope 2 ^ -21
+-- u lies a little above 2 ^ 32, where 2 ^ 6 √m begins, and at most at 2 ^ 33, where it ends; and not below the line of slope 2 ^ -21 that ends there
 pub record Inside (m u : ℕ) : Type 0 where
   pub from : 2 ^ 32 + 2 ^ 18 ≤ u
   pub most : u ≤ 2 ^ 33
@@ -49,7 +49,7 @@ held (c ∷ cs) t zero = leb→le (c .0) (c .1) (both (leb (c .0) (c .1)) (test 
 held (c ∷ cs) t (suc i) = held cs (both (leb (c .0) (c .1)) (test cs) t .1) i
 
 -- ---- the line from s with the slope k, over the part from o to o + w; v is the line at o
--- what is asked of it: the slope; the line at both ends; how far it is below the root anywhere, and how far above it at both ends
+-- What is asked of it: 0 the slope; 1 the line at the part's beginning, 2 and 3 at its end; 4 how far the line is below the root anywhere; 5 and 6 how far it is above it at both ends.
 abbrev asked : ℕ → ℕ → ℕ → ℕ → List (ℕ × ℕ)
 asked s k o w =
     let v = s + k * o / 2 ^ 31 in
@@ -111,11 +111,11 @@ lowOf p = cond (ltb p 16) (2 ^ 52 + p * 2 ^ 48) (p * 2 ^ 49)
 abbrev wideOf : ℕ → ℕ
 wideOf p = cond (ltb p 16) (2 ^ 48) (2 ^ 49)
 
-pub record Ends (m p : ℕ) : Type 0 where
-  pub one : p < 32
-  pub from : lowOf p ≤ m
-  pub below : m < lowOf p + wideOf p
-  pub end : lowOf p + wideOf p ≤ 2 ^ 54
+record Ends (m p : ℕ) : Type 0 where
+  one : p < 32
+  from : lowOf p ≤ m
+  below : m < lowOf p + wideOf p
+  end : lowOf p + wideOf p ≤ 2 ^ 54
 
 ends : (m p : ℕ) → InPart m p → Ends m p
 ends m p i = elim (side m (2 ^ 53)) [

@@ -1,5 +1,5 @@
 // Lines near 2^6 * √m, one for each of the 32 parts of m's range: 16 equal ones of 2^52 to 2^53, and 16 of 2^53 to 2^54. None is off by
-// more than 2^-13.9 of the root. measure/roots/lines.py makes them.
+// more than 2^-13.9 of the root (measure/roots/lines.py, which makes them). That they are near enough is proved (proofs/LineLaws.antt).
 ghost use mathlib.Core.Path.{_≡_};
 ghost use Prim.Native.Nat.{_<_};
 ghost use Rattle.roots.specs.Lines.{startOf, slopeOf};

@@ -4,7 +4,6 @@ use mathlib.Core.Logic.{_⊎_, inl, inr}
 use Prim.Native.Nat.{ℕ, _+_, _*_, _/_, _%_, _^_, _≤_, _<_}
 use native.Mathlib.Omega.{arith}
 use borrow.Author.Tests.{lt-ltb, le-ltb}
-use Rattle.roots.specs.Lines.{InPart}
 use Rattle.roots.proofs.Assemble.{shared, c-below, written}
 use Rattle.roots.proofs.digits.root_bits.Statement.{statement}
 use Rattle.roots.proofs.digits.root_bits.Tie as tie
@@ -13,7 +12,7 @@ use Rattle.roots.proofs.digits.root_bits.Tie as tie
 abbrev m : tie.Joined1 → ℕ
 m c = c .before .args .w % 2 ^ 53 + c .if1 .top
 
--- by y, what w has below its exponent's even part
+-- by which way they came: y has w's 53 last digits
 ways : (c : tie.Joined1) → let y = c .before .args .w % 2 ^ 53 in ((y < 2 ^ 52) × (m c ≡ y + 2 ^ 52)) ⊎ ((2 ^ 52 ≤ y) × (m c ≡ y + y))
 ways c = let y = c .before .args .w % 2 ^ 53 in elim (c .if1 .came) [ inl h ↦ inl (h .0 .taken, ap (λ (x : ℕ). y + x) (h .1)) | inr h ↦ inr (h .0 .left, ap (λ (x : ℕ). y + x) (h .1)) ]
 
@@ -23,18 +22,16 @@ Same c = let w = c .before .args .w in m c ≡ (2 ^ 52 + w % 2 ^ 52) * (1 + (w /
 same : (c : tie.Joined1) → Same c
 same c = shared (c .before .args .w) (m c) (ways c)
 
--- which part it lies in
-at : (c : tie.Joined1) → InPart (m c) (c .before .args .w % 2 ^ 53 / 2 ^ 48)
-at c = elim (ways c) [
-  | inl e ↦ record { from = omega (arith, e); below = omega (arith, e); part = rw (lt-ltb (m c) (2 ^ 53) (omega (arith, e))) (omega (arith, e)) }
-  | inr e ↦ record { from = omega (arith, e); below = omega (arith, e); part = rw (le-ltb (m c) (2 ^ 53) (omega (arith, e))) (omega (arith, e)) }
-]
-
 add-root : tie.Need-add-root
-add-root c = omega (arith, at (c .before) .below)
+add-root c = elim (ways (c .before)) [ inl e ↦ omega (arith, e) | inr e ↦ omega (arith, e) ]
 
 root-requires : tie.Need-root-requires
-root-requires c κs = at (c .before)
+root-requires c κs =
+    let d = m (c .before) in
+    elim (ways (c .before)) [
+      | inl e ↦ record { from = omega (arith, e); below = omega (arith, e); part = rw (lt-ltb d (2 ^ 53) (omega (arith, e))) (omega (arith, e)) }
+      | inr e ↦ record { from = omega (arith, e); below = omega (arith, e); part = rw (le-ltb d (2 ^ 53) (omega (arith, e))) (omega (arith, e)) }
+    ]
 
 add-result : tie.Need-add-result
 add-result c =
