@@ -73,6 +73,12 @@ static void measure_roots(long count) {
             root(field << 52 | digits);
             root(1ULL << 63 | field << 52 | digits);
         }
+    for (uint64_t part = 0; part < 32; part++)                          // both ends of each part that has a line: 16 of either parity of the exponent
+        for (uint64_t i = 0; i < 200; i++) {
+            uint64_t low = 1022ULL << 52 | part << 48;
+            root(low + i);
+            root(low + (1ULL << 48) - 1 - i);
+        }
     printf("sqrt: %ld patterns, %ld differ from the platform's\n", roots, wrong);
 }
 
