@@ -2,7 +2,7 @@
 -- u is the line at m, near 2 ^ 6 √m; n is m with its last digit turned; q is the whole part of 2 ^ 10 n / u. So 4 q is near 2 ^ 12 m / u, the sum u + 4 q is twice what a round of Heron's method makes of u, and g is a 64th of it.
 -- 1. It is not too small, whatever u is: the square of a sum is at least four times the product, and u * 4 (q + 1) is above 2 ^ 12 n.
 -- 2. It is not too large, where the line is near: with w = u² and r = 2 ^ 12 m, u (u + 4 q) is at most w + r and a little, (w + r)² is 4 w r + (w - r)², and w - r is at most 2 ^ 20 u.
--- 3. The sum has 34 digits, so g has 28, and the | of the code changes nothing. Below, since each line begins above the root; above, since each ends at 2 ^ 33 at most and is no steeper than the chord.
+-- 3. The sum has 34 digits, so g has 28, and the | of the code changes nothing. It is not below 2 ^ 33, since every line begins above 2 ^ 32; and it is below 2 ^ 34, since no line passes 2 ^ 33 and none is far below it where m is near 2 ^ 54.
 use mathlib.Core.Path.{_≡_, refl, sym, ap}
 use mathlib.Core.Logic.{inl, inr}
 use Prim.Native.Nat.{ℕ, _+_, _-_, _*_, _/_, _%_, _^_, _≤_, _<_}
@@ -22,28 +22,28 @@ marked x h k = omega (arith, or-add-and x (2 ^ 27), and-high x 1 27)
 
 -- ---- the three steps, of any m, n beside it, and u; q is the quotient
 module _ (m n u q : ℕ) (less : u * q ≤ 2 ^ 10 * n) (more : 2 ^ 10 * n < u * (q + 1)) where
-  not-small : (g : ℕ) → m ≤ n + 1 → 2 ^ 31 ≤ u → u + 4 * q < 64 * (g + 1) → 4 * m < (g + 2) * (g + 2)
+  not-small : (g : ℕ) → m ≤ n + 1 → 2 ^ 32 ≤ u → u + 4 * q < 64 * (g + 1) → 4 * m < (g + 2) * (g + 2)
   not-small g beside from up =
       let l : u + 4 * (q + 1) + 61 ≤ 64 * (g + 2) = omega arith in
       omega (arith, sum-square u (4 * (q + 1)), mul-le-mul l l)
 
   -- w and r, how far they are apart, and their sum in two parts: p, and what 128 u is more than 2 ^ 12
-  square-below : (w r p e : ℕ) → w ≡ u * u → 3 * 2 ^ 30 ≤ u → gap w r ≤ 2 ^ 20 * u → p + e ≡ w + r → 127 * u ≤ e → 3 * w ≤ 2 * p → p * p ≤ 4 * (w * r)
+  square-below : (w r p e : ℕ) → w ≡ u * u → 2 ^ 32 ≤ u → gap w r ≤ 2 ^ 20 * u → p + e ≡ w + r → 127 * u ≤ e → 3 * w ≤ 2 * p → p * p ≤ 4 * (w * r)
   square-below w r p e is from near sum large most =
       let a : 3 * w * (127 * u) ≤ 2 * p * e = mul-le-mul most large in
       let b : gap w r * gap w r ≤ 2 ^ 20 * u * (2 ^ 20 * u) = mul-le-mul near near in
-      let c : 3 * 2 ^ 30 * w ≤ u * w = mul-le-mul-right w from in
+      let c : 2 ^ 32 * w ≤ u * w = mul-le-mul-right w from in
       let d : (p + e) * (p + e) ≡ (w + r) * (w + r) = ap (λ (x : ℕ). x * x) sum in
       let s : u * u ≡ w = sym is in
       omega (arith, a, b, c, d, s, sum-square w r)
 
-  not-large : (a : ℕ) → n ≤ m + 1 → 3 * 2 ^ 30 ≤ u → NearLine m u → 64 * (a + 2) ≤ u + 4 * q → a * a ≤ 4 * m
+  not-large : (a : ℕ) → n ≤ m + 1 → 2 ^ 32 ≤ u → NearLine m u → 64 * (a + 2) ≤ u + 4 * q → a * a ≤ 4 * m
   not-large a beside from near down =
       let w = u * u in
       let r = 2 ^ 12 * m in
       let e = 128 * u - 2 ^ 12 in
       let p = w + r - e in
-      let k : 3 * 2 ^ 30 * u ≤ w = mul-le-mul-right u from in
+      let k : 2 ^ 32 * u ≤ w = mul-le-mul-right u from in
       let s : p * p ≤ 4 * (w * r) = square-below w r p e refl from (omega (arith, near .above, near .under)) (omega arith) (omega arith) (omega (arith, near .under)) in
       let t : 64 * a * u ≤ p = omega (arith, mul-le-mul-right u down) in
       let c : a * a * w ≤ 4 * m * w = omega (arith, le-trans (mul-le-mul t t) s) in
@@ -107,10 +107,10 @@ module _ (m p : ℕ) (i : InPart m p) where
   pub guess-is-good : Good m (guessOf p m)
   guess-is-good =
       let g = guessOf p m in
-      let large : 3 * 2 ^ 30 ≤ u = omega (arith, line-inside m p i .from) in
+      let large : 2 ^ 32 ≤ u = omega (arith, line-inside m p i .from) in
       record {
         from = omega (arith, sum-range .0);
         below = omega (arith, sum-range .1);
         low = not-large m n u q less more (g - 2) (omega (arith, turned m)) large (line-is-near m p i) (omega (arith, sum-range .0));
-        high = not-small m n u q less more g (omega (arith, turned m)) (omega (arith, large)) (omega arith);
+        high = not-small m n u q less more g (omega (arith, turned m)) large (omega arith);
       }

@@ -25,7 +25,7 @@ pub record NearLine (m u : ℕ) : Type 0 where
   pub above : 2 ^ 12 * m ≤ u * u + 2 ^ 20 * u
   pub under : u * u ≤ 2 ^ 12 * m + 2 ^ 20 * u
 
--- u lies a little above 2 ^ 32, where 2 ^ 6 √m begins, and at most at 2 ^ 33, where it ends; and not below the line of slope 2 ^ -21 that ends there
+-- u is a little above 2 ^ 32 at least, where 2 ^ 6 √m begins, and 2 ^ 33 at most, where that ends; and it is not below the line of slope 2 ^ -21 that ends there
 pub record Inside (m u : ℕ) : Type 0 where
   pub from : 2 ^ 32 + 2 ^ 18 ≤ u
   pub most : u ≤ 2 ^ 33
