@@ -5,19 +5,23 @@
 
 typedef uint64_t Id;
 struct qemu_plugin_tb;
+struct qemu_plugin_insn;
 extern void qemu_plugin_register_vcpu_tb_trans_cb(Id, void (*)(Id, struct qemu_plugin_tb *));
 extern size_t qemu_plugin_tb_n_insns(const struct qemu_plugin_tb *);
-extern void qemu_plugin_register_vcpu_tb_exec_inline(struct qemu_plugin_tb *, int operation, void *, uint64_t);
+extern struct qemu_plugin_insn *qemu_plugin_tb_get_insn(const struct qemu_plugin_tb *, size_t);
+extern void qemu_plugin_register_vcpu_insn_exec_inline(struct qemu_plugin_insn *, int operation, void *, uint64_t);
 extern void qemu_plugin_register_atexit_cb(Id, void (*)(Id, void *), void *);
 
 __attribute__((visibility("default"))) int qemu_plugin_version = 1;
 
 static uint64_t instructions;
 
-// A block that was translated adds its length each time it runs; 0 is the interface's addition.
+// Each instruction that runs adds 1; 0 is the interface's addition. A block's length would count one twice that lies across the end of a page: the
+// block is cut before it, and its length has it still.
 static void translated(Id id, struct qemu_plugin_tb *block) {
     (void)id;
-    qemu_plugin_register_vcpu_tb_exec_inline(block, 0, &instructions, qemu_plugin_tb_n_insns(block));
+    for (size_t i = 0; i < qemu_plugin_tb_n_insns(block); i++)
+        qemu_plugin_register_vcpu_insn_exec_inline(qemu_plugin_tb_get_insn(block, i), 0, &instructions, 1);
 }
 
 static void ended(Id id, void *data) {
