@@ -150,27 +150,28 @@ all-lines = tt
 line-holds : (p : ℕ) → p < 32 → Hold (askedOf p)
 line-holds p h = of-each 32 p h all-lines
 
+-- ---- so each line is near over its part
 module _ (m p : ℕ) (i : InPart m p) where
-  abbrev e : Ends m p
-  e = ends m p i
+  abbrev range : Ends m p
+  range = ends m p i
 
-  h : Hold (askedOf p)
-  h = line-holds p (e .one)
+  holds : Hold (askedOf p)
+  holds = line-holds p (range .one)
 
   pub part-below : p < 32
-  part-below = e .one
+  part-below = range .one
 
   pub slope-below : slopeOf p ≤ 2 ^ 10
-  slope-below = h 0
+  slope-below = holds 0
 
   pub line-is-near : NearLine m (lineOf p m)
   line-is-near = record {
-    above = not-below (startOf p) (slopeOf p) (lowOf p) (wideOf p) m (e .from) (e .below) (h 4);
-    under = not-above (startOf p) (slopeOf p) (lowOf p) (wideOf p) m (e .from) (e .below) (h 5) (h 6);
+    above = not-below (startOf p) (slopeOf p) (lowOf p) (wideOf p) m (range .from) (range .below) (holds 4);
+    under = not-above (startOf p) (slopeOf p) (lowOf p) (wideOf p) m (range .from) (range .below) (holds 5) (holds 6);
   }
 
   pub line-inside : Inside m (lineOf p m)
-  line-inside = within (startOf p) (slopeOf p) (lowOf p) (wideOf p) m (e .from) (e .below) (e .end) (h 0) (h 1) (h 2) (h 3)
+  line-inside = within (startOf p) (slopeOf p) (lowOf p) (wideOf p) m (range .from) (range .below) (range .end) (holds 0) (holds 1) (holds 2) (holds 3)
 
 -- ---- a number below 32 that is none of the first 31
 abbrev others : ℕ → ℕ → Type 0

@@ -1,7 +1,6 @@
 -- `root`: one division and one comparison (Division.antt), since the guess is good.
 use borrow.Author.Needs.{needs}
-use mathlib.Core.Path.{_≡_}
-use Prim.Native.Nat.{ℕ, _+_, _-_, _*_, _^_, _≤_, _<_}
+use Prim.Native.Nat.{ℕ, _^_, _<_}
 use native.Mathlib.Omega.{arith}
 use Rattle.roots.specs.Lines.{Good}
 use Rattle.roots.proofs.Division.{left-below, rest-below, quotient-below, test-below, root-is-near}
