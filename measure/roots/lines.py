@@ -8,7 +8,8 @@ Usage: lines.py            prints part, start and slope of each line, and how fa
 
 m lies from 2^52 to 2^54, and is even from 2^53 on. A line is start + slope * m / 2^31, near 2^6 * sqrt(m): as far above the root at an end of its part
 as below it in the middle, relative to the root. A slope is a whole number, a start a multiple of 2^12. The last line is lowered, to end at 2^33, so
-that the guess does not pass 2^28. A guess g at sqrt(4 m) is good where (g - 2)^2 <= 4 m < (g + 2)^2. mpmath (Debian: python3-mpmath) finds the lines.
+that the guess does not pass 2^28. A guess g at sqrt(4 m) is good where (g - 2)^2 <= 4 m < (g + 2)^2, which is proved of every
+m (crates/roots/proofs/Guess.antt). mpmath (Debian: python3-mpmath) finds the lines.
 """
 import math
 import os
