@@ -45,7 +45,7 @@ module _ (x : List Float) (n k : ℕ) (d : Float) (alternative : Alternative) (c
 
     module _ (q : passes (inverseRefusal k i) ≡ true) where
       -- path 1
-      pub too-few : ltb n 3 ≡ true → Decided (acceptedOf d one alternative n 1 false 0 noWork noLaw) false
+      pub too-few : ltb n 3 ≡ true → Decided (acceptedOf d one alternative n 1 false 0 noWork true noLaw) false
       unfolding designOf firstOf
       too-few r = rw (hold, inv, q, r) (refl, refl)
 

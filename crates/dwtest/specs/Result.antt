@@ -24,10 +24,10 @@ abbrev pub refusedOf : Refusal → Outcome
 refusedOf r =
     record { refusal = r; statistic = plusZero; p = plusZero; alternative = Greater; n = 0; path = 0; fallback = false; kept = 0; work = noWork; settled = false; law = noLaw }
 
--- an answer of n rows by a path; settled where fewer than 2,000 bisections were made
-abbrev pub acceptedOf : Float → Float → Alternative → ℕ → ℕ → Bool → ℕ → Tally → NormalLaw → Outcome
-acceptedOf d p alternative n path fallback kept work law =
-    record { refusal = passed; statistic = d; p = p; alternative = alternative; n = n; path = path; fallback = fallback; kept = kept; work = work; settled = ltb (work .bisections) 2000; law = law }
+-- an answer of n rows by a path
+abbrev pub acceptedOf : Float → Float → Alternative → ℕ → ℕ → Bool → ℕ → Tally → Bool → NormalLaw → Outcome
+acceptedOf d p alternative n path fallback kept work settled law =
+    record { refusal = passed; statistic = d; p = p; alternative = alternative; n = n; path = path; fallback = fallback; kept = kept; work = work; settled = settled; law = law }
 
 -- default is exact below 100 rows, else normal
 abbrev pub wantsExact : Choice → ℕ → Bool

@@ -1,7 +1,7 @@
 -- The Durbin-Watson test of document 01, line by line: what it answers, and what it leaves in the two lent rooms.
 -- e is the run of n residuals, x the run of k columns; of the rooms only the lengths decide. Definitions only. Assumes nothing.
 use Prim.Native.Nat.{ℕ, _*_}
-use mathlib.Core.Bool.{Bool, false, not, _&&_, cond}
+use mathlib.Core.Bool.{Bool, true, false, not, _&&_, cond}
 use mathlib.Core.List.{List, [], _∷_, _++_}
 use lib.Dec.{ltb}
 use lib.ListN.{length, drop, replicate}
@@ -31,7 +31,7 @@ module _ (x : List Float) (n k : ℕ) (d : Float) (alternative : Alternative) (c
   -- path 1 with fewer than 3 rows, where p is 1; else exact or normal as chosen
   abbrev pub answerOf : Outcome
   answerOf =
-      cond (ltb n 3) (acceptedOf d one alternative n 1 false 0 noWork noLaw)
+      cond (ltb n 3) (acceptedOf d one alternative n 1 false 0 noWork true noLaw)
       (cond (wantsExact choice n) exactOf (normalPath x n k (inverseOf x n k) d alternative direct))
 
   -- refusals 11 and 13, stage 1, then the answer

@@ -4,22 +4,25 @@ ghost use Prim.Native.Nat.{_+_, _*_, _≤_, _<_};
 ghost use lib.ListN.{length, take, drop};
 ghost use Rattle.dwtest.specs.Result.{refusedOf, acceptedOf, exactP, wantsExact, smaller};
 ghost use Rattle.imhof.specs.Imhof.{imhofOf};
-ghost use Rattle.dwtest.specs.Paths.{normalPath, byImhof, exactPath};
+ghost use Rattle.dwtest.specs.Paths.{fallenBack, workedOut, normalPath, byImhof, exactPath};
 use super::Choice;
 use super::Outcome;
 use super::Refusal;
 use design::Alternative;
 use design::LawAnswer;
+use eigen::Numbers;
 use eigen::Spectrum;
 use elementary::NormalLaw;
 use floats::tally::Tally;
+use imhof::Estimate;
 use imhof::Exact;
 
-// What the exact way leaves to the normal one: whether it fell back, how many eigenvalues it kept, its work.
+// What the exact way leaves to the normal one: whether it fell back, how many eigenvalues it kept, its work, and whether what it did came to its end.
 pub struct Leaving {
     pub fallback: bool,
     pub kept: usize,
     pub work: Tally,
+    pub settled: bool,
 }
 
 // A refusal holds its number, its place and zeros.
@@ -44,7 +47,7 @@ pub fn refused(why: Refusal) -> Outcome
     }
 }
 
-// An answer by a path; settled where fewer than 2,000 bisections were made.
+// An answer by a path.
 pub fn accepted(
     d: f64,
     p: f64,
@@ -54,7 +57,7 @@ pub fn accepted(
     left: Leaving,
     law: NormalLaw,
 ) -> Outcome
-    ensures { λ r. ⌜ r ≡ acceptedOf d p alternative n path (left .fallback) (left .kept) (left .work) law ⌝ }
+    ensures { λ r. ⌜ r ≡ acceptedOf d p alternative n path (left .fallback) (left .kept) (left .work) (left .settled) law ⌝ }
 {
     let work = left.work;
     Outcome {
@@ -70,7 +73,7 @@ pub fn accepted(
         fallback: left.fallback,
         kept: left.kept,
         work,
-        settled: work.bisections < 2000,
+        settled: left.settled,
         law,
     }
 }
@@ -152,7 +155,39 @@ pub fn normal(
     }
 }
 
-// Path 2 from Imhof's probability, or the fallback.
+// Where no weight is left: the sweeps decided that, and no integral was needed.
+fn fallen_back(s: Numbers) -> Leaving
+    ensures { λ r. ⌜ r ≡ fallenBack s ⌝ }
+{
+    let work = s.work;
+    Leaving {
+        fallback: true,
+        kept: s.count,
+        work,
+        settled: !s.stuck,
+    }
+}
+
+// With a value: the sweeps and the integral.
+fn worked_out(s: Numbers, q: Estimate) -> Leaving
+    ensures { λ r. ⌜ r ≡ workedOut s q ⌝ }
+{
+    let work = s.work;
+    let tally = q.tally;
+    let both = Tally {
+        sweeps: work.sweeps,
+        bisections: tally.bisections,
+        evaluations: tally.evaluations,
+    };
+    Leaving {
+        fallback: false,
+        kept: s.count,
+        work: both,
+        settled: !s.stuck & q.small,
+    }
+}
+
+// Path 2 from Imhof's probability, or the fallback. `s` is how many eigenvalues are kept and what they took.
 fn by_imhof(
     found: Exact,
     columns: &[f64],
@@ -161,55 +196,29 @@ fn by_imhof(
     inverse: [[f64; 8]; 8],
     d: f64,
     alternative: Alternative,
-    kept: usize,
-    work: Tally,
+    s: Numbers,
 ) -> Outcome
     requires { ⌜ (n ≤ 256) × (k < n) × (k ≤ 8) × (k * n ≡ length (now columns)) ⌝ }
-    ensures { λ r. ⌜ r ≡ byImhof (now (columns .entry)) n k inverse d alternative found kept work ⌝ }
+    ensures { λ r. ⌜ r ≡ byImhof (now (columns .entry)) n k inverse d alternative found s ⌝ }
 {
     match found {
-        Exact::NoWeight => normal(
-            columns,
-            n,
-            k,
-            inverse,
-            d,
-            alternative,
-            Leaving {
-                fallback: true,
-                kept,
-                work,
-            },
-        ),
+        Exact::NoWeight => normal(columns, n, k, inverse, d, alternative, fallen_back(s)),
         Exact::NotFinite => refused(Refusal {
             number: 13,
             place: 4,
         }),
-        Exact::Value(q) => {
-            let tally = q.tally;
-            let both = Tally {
-                sweeps: work.sweeps,
-                bisections: tally.bisections,
-                evaluations: tally.evaluations,
-            };
-            let left = Leaving {
-                fallback: false,
-                kept,
-                work: both,
-            };
-            accepted(
-                d,
-                exact_p(q.probability, alternative),
-                alternative,
-                n,
-                2,
-                left,
-                NormalLaw {
-                    mean: 0.0,
-                    variance: 0.0,
-                },
-            )
-        }
+        Exact::Value(q) => accepted(
+            d,
+            exact_p(q.probability, alternative),
+            alternative,
+            n,
+            2,
+            worked_out(s, q),
+            NormalLaw {
+                mean: 0.0,
+                variance: 0.0,
+            },
+        ),
     }
 }
 
@@ -250,9 +259,8 @@ pub fn exact(
             place: 3,
         }),
         Spectrum::Kept(s) => {
-            let count = s.count;
-            let found = probability(&kept, count, d, parts);
-            by_imhof(found, columns, n, k, inverse, d, alternative, count, s.work)
+            let found = probability(&kept, s.count, d, parts);
+            by_imhof(found, columns, n, k, inverse, d, alternative, s)
         }
     }
 }

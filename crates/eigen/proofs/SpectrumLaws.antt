@@ -23,25 +23,26 @@ use Rattle.floats.specs.declared.search.Found.the-variants.{At, Nothing}
 use Rattle.projection.specs.Projection.{residual, product, mamOf, residualMaker}
 use Rattle.tridiagonal.specs.Reflection.{columnOf, normOf, alphaOf, normalOf, imageOf, correctionOf, reflectedEntry, reflected, tridiagonalOf}
 use Rattle.tridiagonal.specs.Bands.{diagonalOf, couplingsOf}
-use Rattle.ql.specs.Ql.{Worked, qlOf}
+use Rattle.ql.specs.Ql.{Worked, qlOf, stuckOf}
 use Rattle.eigen.specs.Kept.{falling, large, keptOf}
-use Rattle.eigen.specs.Spectrum.{bandsWorked, workedOf, numbersOf, deliveredOf, deliveredNumbers, spectrumOf, keptNumbers, frontOf, keptBy, keptFrom, spectrumBy, numbersBy, frontBy}
+use Rattle.eigen.specs.Spectrum.{bandsWorked, bandsStuck, workedOf, numbersOf, deliveredOf, deliveredNumbers, spectrumOf, keptNumbers, frontOf, keptBy, keptFrom, spectrumBy, numbersBy, frontBy}
 use Rattle.eigen.specs.declared.Numbers.{Numbers}
 use Rattle.eigen.specs.declared.Spectrum.the-variants.{MatrixNotFinite, NumberNotFinite, Kept}
 use Rattle.eigen.proofs.OrderLaws.{length-falling}
 use Rattle.eigen.proofs.KeptLaws.{kept-few}
 
--- the bands of the lent matrix, and the QL step on them
+-- the bands of the lent matrix, the QL step on them, and whether an index of it had a coupling left
 pub worked-is : (n : ℕ) (b t r d₀ e₀ d e : List Float) (w : Tally) → length t ≡ n * n → t ≡ tridiagonalOf n b → length d₀ ≡ n → length e₀ ≡ n
-    → d ≡ diagonalOf n (take (n * n) (t ++ r)) ++ drop n d₀ → e ≡ couplingsOf n (take (n * n) (t ++ r)) ++ drop n e₀ → w ≡ noWork → qlOf n n d e w ≡ workedOf n b
-unfolding bandsWorked
+    → d ≡ diagonalOf n (take (n * n) (t ++ r)) ++ drop n d₀ → e ≡ couplingsOf n (take (n * n) (t ++ r)) ++ drop n e₀ → w ≡ noWork
+    → (qlOf n n d e w ≡ workedOf n b) × (stuckOf n n d e w ≡ bandsStuck n (tridiagonalOf n b))
+unfolding bandsWorked bandsStuck
 worked-is n b t r d₀ e₀ d e w l h p q f g z =
     let m : take (n * n) (t ++ r) ≡ tridiagonalOf n b = take-at t r (n * n) l ∙ h in
     let u : length d₀ ≤ n = omega arith in
     let v : length e₀ ≤ n = omega arith in
     let x : d ≡ diagonalOf n (tridiagonalOf n b) = f ∙ rw (m, drop-of-length-le d₀ u) (append-nil (diagonalOf n (tridiagonalOf n b))) in
     let y : e ≡ couplingsOf n (tridiagonalOf n b) = g ∙ rw (m, drop-of-length-le e₀ v) (append-nil (couplingsOf n (tridiagonalOf n b))) in
-    rw (x, y, z)
+    rw (x, y, z) (refl, refl)
 
 -- 13, stage 3
 pub number-bad : (n k : ℕ) (b : List Float) (t : ℕ) → firstBad (numbersOf n b) ≡ At t → (deliveredOf n k b ≡ NumberNotFinite) × (deliveredNumbers n k b ≡ [])
@@ -50,7 +51,7 @@ number-bad n k b t h = rw h (refl, refl)
 
 -- what is kept
 pub numbers-good : (n k : ℕ) (b d : List Float) → firstBad (numbersOf n b) ≡ Nothing → d ≡ falling (numbersOf n b) n ++ drop n (numbersOf n b)
-    → (deliveredOf n k b ≡ Kept (record { count = length (large (take (n - k) d)); work = workedOf n b .work })) × (deliveredNumbers n k b ≡ large (take (n - k) d))
+    → (deliveredOf n k b ≡ Kept (record { count = length (large (take (n - k) d)); work = workedOf n b .work; stuck = bandsStuck n (tridiagonalOf n b) })) × (deliveredNumbers n k b ≡ large (take (n - k) d))
 unfolding deliveredOf deliveredNumbers keptOf
 numbers-good n k b d h e =
     let s : take (n - k) d ≡ take (n - k) (falling (numbersOf n b) n) = ap (take (n - k)) e ∙ take-append-le (n - k) (falling (numbersOf n b) n) (drop n (numbersOf n b)) (within n k (length-falling (numbersOf n b) n)) in
@@ -89,31 +90,32 @@ kept-within x inverse n k = go (firstBad (mamOf x inverse n k))
     go (At t) = omega arith
     go Nothing = numbers-within n k (mamOf x inverse n k)
 
--- the count is how many there are
-count-of : (f : Found) (n k : ℕ) (numbers : List Float) (work : Tally) (s : Numbers) → keptBy f n k numbers work ≡ Kept s → s .count ≡ length (keptFrom f n k numbers)
-count-of (At t) n k numbers work s e = absurd (clash e)
+-- the count is how many there are, and the mark is whether a coupling was left
+told-by : (f : Found) (n k : ℕ) (numbers : List Float) (work : Tally) (stuck : Bool) (s : Numbers) → keptBy f n k numbers work stuck ≡ Kept s → (s .count ≡ length (keptFrom f n k numbers)) × (s .stuck ≡ stuck)
+told-by (At t) n k numbers work stuck s e = absurd (clash e)
   where
     clash : NumberNotFinite ≡ Kept s → ⊥
     clash q = let z : _≡_ {A = ℕ} 0 1 = cc in omega arith
-count-of Nothing n k numbers work s e = sym (ap (λ (r : Numbers). r .count) (same e))
+told-by Nothing n k numbers work stuck s e = (sym (ap (λ (r : Numbers). r .count) (same e)), sym (ap (λ (r : Numbers). r .stuck) (same e)))
   where
-    same : Kept (record { count = length (keptOf numbers n k); work = work }) ≡ Kept s → _≡_ {A = Numbers} (record { count = length (keptOf numbers n k); work = work }) s
+    same : Kept (record { count = length (keptOf numbers n k); work = work; stuck = stuck }) ≡ Kept s → _≡_ {A = Numbers} (record { count = length (keptOf numbers n k); work = work; stuck = stuck }) s
     same q = cc
 
-delivered-count : (n k : ℕ) (b : List Float) (s : Numbers) → deliveredOf n k b ≡ Kept s → s .count ≡ length (deliveredNumbers n k b)
+delivered-told : (n k : ℕ) (b : List Float) (s : Numbers) → deliveredOf n k b ≡ Kept s → (s .count ≡ length (deliveredNumbers n k b)) × (s .stuck ≡ bandsStuck n (tridiagonalOf n b))
 unfolding deliveredOf deliveredNumbers
-delivered-count n k b s e = count-of (firstBad (numbersOf n b)) n k (numbersOf n b) (workedOf n b .work) s e
+delivered-told n k b s e = told-by (firstBad (numbersOf n b)) n k (numbersOf n b) (workedOf n b .work) (bandsStuck n (tridiagonalOf n b)) s e
 
-pub kept-count : (x : List Float) (inverse : List (List Float)) (n k : ℕ) (s : Numbers) → spectrumOf x inverse n k ≡ Kept s → s .count ≡ length (keptNumbers x inverse n k)
+pub kept-told : (x : List Float) (inverse : List (List Float)) (n k : ℕ) (s : Numbers) → spectrumOf x inverse n k ≡ Kept s
+    → (s .count ≡ length (keptNumbers x inverse n k)) × (s .stuck ≡ bandsStuck n (tridiagonalOf n (mamOf x inverse n k)))
 unfolding spectrumOf keptNumbers
-kept-count x inverse n k s h = go (firstBad (mamOf x inverse n k)) h
+kept-told x inverse n k s h = go (firstBad (mamOf x inverse n k)) h
   where
     clash : MatrixNotFinite ≡ Kept s → ⊥
     clash q = let z : _≡_ {A = ℕ} 0 1 = cc in omega arith
 
-    go : (f : Found) → spectrumBy f n k (mamOf x inverse n k) ≡ Kept s → s .count ≡ length (numbersBy f n k (mamOf x inverse n k))
+    go : (f : Found) → spectrumBy f n k (mamOf x inverse n k) ≡ Kept s → (s .count ≡ length (numbersBy f n k (mamOf x inverse n k))) × (s .stuck ≡ bandsStuck n (tridiagonalOf n (mamOf x inverse n k)))
     go (At t) e = absurd (clash e)
-    go Nothing e = delivered-count n k (mamOf x inverse n k) s e
+    go Nothing e = delivered-told n k (mamOf x inverse n k) s e
 
 -- ---- the room beyond its first 2n² numbers stays
 

@@ -2,6 +2,7 @@
 -- delivers n numbers, and the n - k largest that exceed 1e-10 are kept (R's dwtest). Residuals do not appear.
 -- x holds k columns of n numbers, one after another, and inverse is (X'X)^-1. Definitions only. Assumes nothing.
 use Prim.Native.Nat.{ℕ}
+use mathlib.Core.Bool.{Bool}
 use mathlib.Core.List.{List, []}
 use lib.Ieee.{Float}
 use lib.ListN.{length}
@@ -13,7 +14,7 @@ use Rattle.floats.specs.declared.search.Found.the-variants.{At, Nothing}
 use Rattle.projection.specs.Projection.{mamOf}
 use Rattle.tridiagonal.specs.Reflection.{tridiagonalOf}
 use Rattle.tridiagonal.specs.Bands.{diagonalOf, couplingsOf}
-use Rattle.ql.specs.Ql.{Worked, qlOf}
+use Rattle.ql.specs.Ql.{Worked, qlOf, stuckOf}
 use Rattle.eigen.specs.Kept.{keptOf}
 use Rattle.eigen.specs.declared.Numbers.{Numbers}
 use Rattle.eigen.specs.declared.Spectrum.{Spectrum}
@@ -23,6 +24,10 @@ use Rattle.eigen.specs.declared.Spectrum.the-variants.{MatrixNotFinite, 
 unfoldable pub bandsWorked : ℕ → List Float → Worked
 bandsWorked n a = qlOf n n (diagonalOf n a) (couplingsOf n a) noWork
 
+-- one of its indexes still had a coupling left after its turn
+unfoldable pub bandsStuck : ℕ → List Float → Bool
+bandsStuck n a = stuckOf n n (diagonalOf n a) (couplingsOf n a) noWork
+
 -- the QL step on a symmetric matrix made tridiagonal, and the n numbers that it delivers
 abbrev pub workedOf : ℕ → List Float → Worked
 workedOf n b = bandsWorked n (tridiagonalOf n b)
@@ -30,17 +35,17 @@ workedOf n b = bandsWorked n (tridiagonalOf n b)
 abbrev pub numbersOf : ℕ → List Float → List Float
 numbersOf n b = workedOf n b .diagonal
 
--- 13, stage 3, where one of them is not finite; else how many are kept, and the sweeps
-abbrev pub keptBy : Found → ℕ → ℕ → List Float → Tally → Spectrum
-keptBy (At t) n k numbers work = NumberNotFinite
-keptBy Nothing n k numbers work = Kept (record { count = length (keptOf numbers n k); work = work })
+-- 13, stage 3, where one of them is not finite; else how many are kept, the sweeps, and whether a coupling was left
+abbrev pub keptBy : Found → ℕ → ℕ → List Float → Tally → Bool → Spectrum
+keptBy (At t) n k numbers work stuck = NumberNotFinite
+keptBy Nothing n k numbers work stuck = Kept (record { count = length (keptOf numbers n k); work = work; stuck = stuck })
 
 abbrev pub keptFrom : Found → ℕ → ℕ → List Float → List Float
 keptFrom (At t) n k numbers = []
 keptFrom Nothing n k numbers = keptOf numbers n k
 
 unfoldable pub deliveredOf : ℕ → ℕ → List Float → Spectrum
-deliveredOf n k b = keptBy (firstBad (numbersOf n b)) n k (numbersOf n b) (workedOf n b .work)
+deliveredOf n k b = keptBy (firstBad (numbersOf n b)) n k (numbersOf n b) (workedOf n b .work) (bandsStuck n (tridiagonalOf n b))
 
 unfoldable pub deliveredNumbers : ℕ → ℕ → List Float → List Float
 deliveredNumbers n k b = keptFrom (firstBad (numbersOf n b)) n k (numbersOf n b)

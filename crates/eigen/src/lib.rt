@@ -13,10 +13,11 @@ pub mod order;
 use floats::search::Found;
 use floats::tally::Tally;
 
-// How many eigenvalues are kept, and the sweeps that they took.
+// How many eigenvalues are kept, the sweeps that they took, and whether an index of the QL step still had a coupling left after its turn.
 pub struct Numbers {
     pub count: usize,
     pub work: Tally,
+    pub stuck: bool,
 }
 
 pub enum Spectrum {
@@ -44,14 +45,16 @@ fn delivered(
     let half = n * n;
     tridiagonal::tridiagonalize(&mut room[..half], n);
     tridiagonal::bands(&room[..half], n, d, e);
-    let work = ql::ql(d, e, n, Tally::new());
+    let swept = ql::ql(d, e, n, Tally::new());
+    let work = swept.work;
+    let stuck = swept.stuck;
     let bad = floats::search::first_bad(d);
     match bad {
         Found::At(_) => Spectrum::NumberNotFinite,
         Found::Nothing => {
             order::order(d, n);
             let count = order::keep(d, n - k, kept);
-            Spectrum::Kept(Numbers { count, work })
+            Spectrum::Kept(Numbers { count, work, stuck })
         }
     }
 }

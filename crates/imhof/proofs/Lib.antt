@@ -7,6 +7,7 @@ pub mod EveryStage
 pub mod Tiling
 pub mod NoNan
 pub mod Probability
+pub mod Ending
 pub mod Midpoint
 pub mod Ordered
 pub mod BeyondLaws

@@ -27,7 +27,7 @@ use Rattle.imhof.specs.Range.{lowEnd, highEnd}
 use Rattle.imhof.specs.Integrand.{integrandOf}
 use Rattle.imhof.specs.Rule.{gk15Of}
 use Rattle.imhof.specs.Parts.{partAt, valuesOf, worstOf, leftHalf, rightHalf, finitePart, Stage, stage, stageAfter}
-use Rattle.imhof.specs.Imhof.{quadratureOf, lastStage, lastStageBy, clampOf, exactBy, outcomeBy, imhofOf}
+use Rattle.imhof.specs.Imhof.{quadratureOf, lastStage, lastStageBy, estimateOf, exactBy, outcomeBy, imhofOf}
 use Rattle.imhof.proofs.StageLaws.{split, finiteHalves, length-split}
 use Rattle.imhof.proofs.HeldLaws.{first-refused}
 use Rattle.imhof.proofs.EveryStage.{All, all-at, all-bisected, every-stage}
@@ -77,25 +77,25 @@ values-number ps h =
 
 -- ---- the answer
 
-no-value : {e : Estimate} → NoWeight ≡ Value e → ⊥
+pub no-value : {e : Estimate} → NoWeight ≡ Value e → ⊥
 no-value q = let z : _≡_ {A = ℕ} 0 1 = cc in omega arith
 
-refused-value : {e : Estimate} → NotFinite ≡ Value e → ⊥
+pub refused-value : {e : Estimate} → NotFinite ≡ Value e → ⊥
 refused-value q = let z : _≡_ {A = ℕ} 0 1 = cc in omega arith
 
-same-value : {d e : Estimate} → Value d ≡ Value e → d ≡ e
+pub same-value : {d e : Estimate} → Value d ≡ Value e → d ≡ e
 same-value q = cc
 
 -- what an estimate of a number that is no NaN has
-number : (x : Float) (t : Tally) (e : Estimate) → isNan x ≡ false → Value (record { raw = x; probability = clampOf x; tally = t }) ≡ Value e → Within (e .probability)
-number x t e h q = subst (λ d. Within (d .probability)) (same-value q) (clamped-within x h)
+number : (x : Float) (t : Tally) (small : Bool) (e : Estimate) → isNan x ≡ false → Value (estimateOf x t small) ≡ Value e → Within (e .probability)
+number x t small e h q = subst (λ d. Within (d .probability)) (same-value q) (clamped-within x h)
 
 last-within : (s : Stage) (e : Estimate) → All FinitePart (s .parts) → exactBy (quadratureOf s) ≡ Value e → Within (e .probability)
 last-within s e h q = go (s .parts) (s .tally) (s .standing) h q
   where
     go : (ps : List Part) (t : Tally) (now : Standing) → All FinitePart ps → exactBy (quadratureOf (stage ps t now)) ≡ Value e → Within (e .probability)
-    go ps t Open h q = number _ t e (by-pi (sumRun (valuesOf ps)) (values-number ps h)) q
-    go ps t Settled h q = number _ t e (by-pi (sumRun (valuesOf ps)) (values-number ps h)) q
+    go ps t Open h q = number _ t _ e (by-pi (sumRun (valuesOf ps)) (values-number ps h)) q
+    go ps t Settled h q = number _ t _ e (by-pi (sumRun (valuesOf ps)) (values-number ps h)) q
     go ps t Refused h q = absurd (refused-value q)
 
 -- the clamped probability lies in [0, 1]
@@ -105,8 +105,8 @@ probability-within es d e q = go (signsOf (weightsOf es d)) (weightsOf es d) q
   where
     go : (s : Signs) (ws : List Float) → outcomeBy s ws .answer ≡ Value e → Within (e .probability)
     go none ws q = absurd (no-value q)
-    go above ws q = number plusZero noWork e (unfold isNan ofBits in refl) q
-    go below ws q = number one noWork e (unfold isNan ofBits in refl) q
+    go above ws q = number plusZero noWork true e (unfold isNan ofBits in refl) q
+    go below ws q = number one noWork true e (unfold isNan ofBits in refl) q
     go mixed ws q = last-within (lastStage ws) e (finite-last ws) q
 
 -- there is no exact value exactly where no weight is left

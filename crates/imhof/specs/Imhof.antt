@@ -2,7 +2,7 @@
 -- Runs are lists of binary64 values, each operation is rounded once (floats' Words). Definitions only. Assumes nothing.
 use mathlib.Core.Bool.{Bool, true, false, _&&_, cond}
 use mathlib.Core.List.{List, []}
-use lib.Ieee.{Float, lt}
+use lib.Ieee.{Float, lt, le}
 use lib.Ieee.Scale.{finite}
 use Rattle.floats.specs.Words.{_⊖_, _⊘_, float, plusZero, one}
 use Rattle.floats.specs.Sums.{sumRun}
@@ -20,11 +20,15 @@ use Rattle.imhof.specs.declared.Exact.the-variants.{NoWeight, NotFinite,
 use Rattle.imhof.specs.Weights.{weightsOf, Signs, none, above, below, mixed, signsOf}
 use Rattle.imhof.specs.Range.{half, lowEnd, highEnd}
 use Rattle.imhof.specs.Integrand.{integrandOf}
-use Rattle.imhof.specs.Parts.{Stage, stage, stageAfter, valuesOf, errorsOf}
+use Rattle.imhof.specs.Parts.{Stage, stage, stageAfter, valuesOf, errorsOf, tolerance}
 
 -- what the parts of a stage add up to, first to last
 abbrev pub integralOf : Stage → Integral
 integralOf s = record { value = sumRun (valuesOf (s .parts)); error = sumRun (errorsOf (s .parts)); tally = s .tally }
+
+-- its error is at most 5e-12
+abbrev pub smallSum : Integral → Bool
+smallSum i = le (i .error) tolerance
 
 abbrev pub quadratureBy : Standing → Stage → Quadrature
 quadratureBy Open s = Sum (integralOf s)
@@ -50,13 +54,13 @@ clampOf x = let y = cond (lt x plusZero) plusZero x in cond (lt one y) one y
 abbrev pub pi : Float
 pi = float 0x400921fb54442d18
 
--- a probability as it came out, the same clamped, and the work it took
-abbrev pub estimateOf : Float → Tally → Estimate
-estimateOf p t = record { raw = p; probability = clampOf p; tally = t }
+-- a probability as it came out, the same clamped, the work it took, and whether its error is small
+abbrev pub estimateOf : Float → Tally → Bool → Estimate
+estimateOf p t small = record { raw = p; probability = clampOf p; tally = t; small = small }
 
 -- 1/2 - integral / pi
 abbrev pub exactBy : Quadrature → Exact
-exactBy (Sum i) = Value (estimateOf (half ⊖ i .value ⊘ pi) (i .tally))
+exactBy (Sum i) = Value (estimateOf (half ⊖ i .value ⊘ pi) (i .tally) (smallSum i))
 exactBy Broken = NotFinite
 
 -- the answer, and the parts that it leaves in the part room
@@ -66,8 +70,8 @@ pub record Outcome : Type 0 where
 
 abbrev pub outcomeBy : Signs → List Float → Outcome
 outcomeBy none ws = record { answer = NoWeight; parts = [] }
-outcomeBy above ws = record { answer = Value (estimateOf plusZero noWork); parts = [] }
-outcomeBy below ws = record { answer = Value (estimateOf one noWork); parts = [] }
+outcomeBy above ws = record { answer = Value (estimateOf plusZero noWork true); parts = [] }
+outcomeBy below ws = record { answer = Value (estimateOf one noWork true); parts = [] }
 outcomeBy mixed ws = record { answer = exactBy (quadratureOf (lastStage ws)); parts = lastStage ws .parts }
 
 unfoldable pub imhofOf : List Float → Float → Outcome

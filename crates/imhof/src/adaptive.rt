@@ -7,7 +7,7 @@ ghost use lib.Ieee.Scale.{finite};
 ghost use Rattle.floats.specs.Count.{noWork, oneBisection};
 ghost use Rattle.floats.specs.Turns.{turns};
 ghost use Rattle.floats.specs.declared.tally.Tally.{Tally};
-ghost use Rattle.imhof.specs.Imhof.{integralOf, quadratureOf, lastStage};
+ghost use Rattle.imhof.specs.Imhof.{integralOf, smallSum, quadratureOf, lastStage};
 ghost use Rattle.imhof.specs.Integrand.{integrandOf};
 ghost use Rattle.imhof.specs.Parts.{finitePart, oneRule, stage, nextStage, stageAfter};
 ghost use Rattle.imhof.specs.Room.{partsIn, laidOut};
@@ -80,6 +80,13 @@ fn total(parts: &[f64], n: usize, tally: Tally) -> Integral
         error: room::error_sum(parts, n),
         tally,
     }
+}
+
+// Whether the summed error is at most 5e-12. The turns ask it before each bisection; the last sum, which 2,000 of them may leave unasked, is asked by this.
+pub fn is_small(i: Integral) -> bool
+    ensures { λ r. ⌜ r ≡ smallSum i ⌝ }
+{
+    i.error <= TOLERANCE
 }
 
 // At most 2,000 turns, from the room's first part on.

@@ -1,6 +1,7 @@
 // Imhof's (1961) probability that a quadratic form in normal variables is below zero, by adaptive
 // Gauss-Kronrod quadrature: from the eigenvalues and the statistic to the exact lower tail.
 ghost use mathlib.Core.Path.{_≡_};
+ghost use mathlib.Core.Bool.{true};
 ghost use Prim.Native.Nat.{_≤_};
 ghost use lib.ListN.{length};
 ghost use Rattle.floats.specs.Count.{noWork};
@@ -45,11 +46,13 @@ pub enum Quadrature {
     Broken,
 }
 
-// A probability as it came out, the same clamped to [0, 1], and the work it took.
+// A probability as it came out, the same clamped to [0, 1], the work it took, and whether the final error sum is small enough:
+// yes where no integral was needed.
 pub struct Estimate {
     pub raw: f64,
     pub probability: f64,
     pub tally: Tally,
+    pub small: bool,
 }
 
 pub enum Exact {
@@ -73,21 +76,22 @@ fn clamp(x: f64) -> f64
     x
 }
 
-fn clamped(raw: f64, tally: Tally) -> Estimate
-    ensures { λ r. ⌜ r ≡ estimateOf raw tally ⌝ }
+fn clamped(raw: f64, tally: Tally, small: bool) -> Estimate
+    ensures { λ r. ⌜ r ≡ estimateOf raw tally small ⌝ }
 {
     Estimate {
         raw,
         probability: clamp(raw),
         tally,
+        small,
     }
 }
 
 // A probability that took no work.
 fn certain(p: f64) -> Exact
-    ensures { λ r. ⌜ r ≡ Value (estimateOf p noWork) ⌝ }
+    ensures { λ r. ⌜ r ≡ Value (estimateOf p noWork true) ⌝ }
 {
-    Exact::Value(clamped(p, Tally::new()))
+    Exact::Value(clamped(p, Tally::new(), true))
 }
 
 // 1/2 - integral / pi.
@@ -95,7 +99,11 @@ fn from_integral(found: Quadrature) -> Exact
     ensures { λ r. ⌜ r ≡ exactBy found ⌝ }
 {
     match found {
-        Quadrature::Sum(i) => Exact::Value(clamped(0.5 - i.value / 3.141592653589793, i.tally)),
+        Quadrature::Sum(i) => Exact::Value(clamped(
+            0.5 - i.value / 3.141592653589793,
+            i.tally,
+            adaptive::is_small(i),
+        )),
         Quadrature::Broken => Exact::NotFinite,
     }
 }

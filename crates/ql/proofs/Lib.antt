@@ -1,1 +1,2 @@
 pub mod SweepLaws
+pub mod StuckLaws

@@ -1,6 +1,6 @@
 -- The implicit QL algorithm: each index in turn, at most 60 sweeps an index. Definitions only. Assumes nothing.
-use Prim.Native.Nat.{ℕ, zero, suc}
-use mathlib.Core.Bool.{cond}
+use Prim.Native.Nat.{ℕ, zero, suc, _-_}
+use mathlib.Core.Bool.{Bool, false, not, _||_, cond}
 use mathlib.Core.List.{List}
 use lib.Dec.{eqb}
 use lib.Ieee.{Float}
@@ -28,3 +28,16 @@ qlOf n zero d e w = record { diagonal = d; coupling = e; work = w }
 qlOf n (suc l) d e w =
     let before : Worked = qlOf n l d e w in
     settled n l 60 (before .diagonal) (before .coupling) (before .work)
+
+-- how many sweeps index l's turn made
+abbrev pub turnSweeps : ℕ → ℕ → List Float → List Float → Tally → ℕ
+turnSweeps n l d e w = qlOf n (suc l) d e w .work .sweeps - qlOf n l d e w .work .sweeps
+
+-- a coupling is left at index l: the block that begins there is not l alone
+abbrev pub couplingLeft : ℕ → List Float → List Float → ℕ → Bool
+couplingLeft n d e l = not (eqb (blockEnd n d e l) l)
+
+-- one of the first k indexes still had a coupling left after its turn
+unfoldable pub stuckOf : ℕ → ℕ → List Float → List Float → Tally → Bool
+stuckOf n zero d e w = false
+stuckOf n (suc l) d e w = stuckOf n l d e w || couplingLeft n (qlOf n (suc l) d e w .diagonal) (qlOf n (suc l) d e w .coupling) l

@@ -9,7 +9,8 @@ ghost use Rattle.floats.specs.Words.{_⊕_, _⊗_, float};
 ghost use Rattle.floats.specs.Signs.{absOf};
 ghost use Rattle.ql.specs.Rotation.{rotated};
 ghost use Rattle.ql.specs.Sweep.{blockEnd, shiftOf, sweepOf};
-ghost use Rattle.ql.specs.Ql.{settled, qlOf};
+ghost use Rattle.ql.specs.Ql.{settled, qlOf, couplingLeft, stuckOf};
+ghost use mathlib.Core.Bool.{_||_};
 use floats::tally::Tally;
 
 // Where a sweep stands: the sine and cosine of its last rotation, the entry to rotate and what the
@@ -146,16 +147,45 @@ fn settle(d: &mut [f64], e: &mut [f64], n: usize, l: usize, work: Tally) -> Tall
     tally
 }
 
+// The work of all turns, and whether an index still had a coupling left after its own.
+pub struct Swept {
+    pub work: Tally,
+    pub stuck: bool,
+}
+
+// Whether `stuck` holds, or a coupling is left at index `l`.
+fn stuck_with(d: &[f64], e: &[f64], n: usize, l: usize, stuck: bool) -> bool
+    requires { ⌜ (l < n) × (n ≤ length (now d)) × (n ≤ length (now e)) ⌝ }
+    ensures { λ r. ⌜ r ≡ (stuck || couplingLeft n (now (d .entry)) (now (e .entry)) l) ⌝ }
+{
+    if stuck {
+        return true;
+    }
+    block_end(d, e, n, l) != l
+}
+
+// Index `l`'s turn, and one look more: whether a coupling is left at it then, or was at an index before it.
+fn settle_and_look(d: &mut [f64], e: &mut [f64], n: usize, l: usize, before: Swept) -> Swept
+    requires { ⌜ (l < n) × (n ≤ length (now d)) × (n ≤ length (now e)) × (before .work .sweeps + 60 < 2 ^ 64) ⌝ }
+    ensures { λ r. ⌜ (r .stuck ≡ (before .stuck || couplingLeft n (settled n l 60 (now (d .entry)) (now (e .entry)) (before .work) .diagonal) (settled n l 60 (now (d .entry)) (now (e .entry)) (before .work) .coupling) l)) × (r .work ≡ settled n l 60 (now (d .entry)) (now (e .entry)) (before .work) .work) ⌝ }
+    ensures { λ _. ⌜ now (d .exit) ≡ settled n l 60 (now (d .entry)) (now (e .entry)) (before .work) .diagonal ⌝ }
+    ensures { λ _. ⌜ now (e .exit) ≡ settled n l 60 (now (d .entry)) (now (e .entry)) (before .work) .coupling ⌝ }
+{
+    let work = settle(d, e, n, l, before.work);
+    let stuck = stuck_with(d, e, n, l, before.stuck);
+    Swept { work, stuck }
+}
+
 // Every index's turn. The first `n` numbers of `d` end as the eigenvalues, in no order.
-pub fn ql(d: &mut [f64], e: &mut [f64], n: usize, work: Tally) -> Tally
+pub fn ql(d: &mut [f64], e: &mut [f64], n: usize, work: Tally) -> Swept
     requires { ⌜ (n ≤ length (now d)) × (n ≤ length (now e)) × (work .sweeps + 60 * n < 2 ^ 64) ⌝ }
-    ensures { λ r. ⌜ r ≡ qlOf n n (now (d .entry)) (now (e .entry)) work .work ⌝ }
+    ensures { λ r. ⌜ (r .work ≡ qlOf n n (now (d .entry)) (now (e .entry)) work .work) × (r .stuck ≡ stuckOf n n (now (d .entry)) (now (e .entry)) work) ⌝ }
     ensures { λ _. ⌜ now (d .exit) ≡ qlOf n n (now (d .entry)) (now (e .entry)) work .diagonal ⌝ }
     ensures { λ _. ⌜ now (e .exit) ≡ qlOf n n (now (d .entry)) (now (e .entry)) work .coupling ⌝ }
 {
-    let mut tally = work;
+    let mut swept = Swept { work, stuck: false };
     for l in 0..n {
-        tally = settle(d, e, n, l, tally);
+        swept = settle_and_look(d, e, n, l, swept);
     }
-    tally
+    swept
 }

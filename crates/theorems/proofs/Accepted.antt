@@ -1,10 +1,11 @@
 -- What an outcome of the test can be. It is a refusal, or it was answered by one of the four paths; whatever holds of each of these holds of every outcome. From that: the
 -- reported statistic is Durbin and Watson's, and is as near the exact quotient as demand 3 asks; every accepted p lies in 0 .. 1; the call is settled exactly when it is
--- accepted with fewer than 2,000 bisections; and it fell back exactly when no weight was left and nothing is refused. Assumes nothing.
+-- accepted and its sweeps and its integral ended; and it fell back exactly when no weight was left and nothing is refused. Assumes nothing.
 use mathlib.Core.Path.{_≡_, refl, sym, ap, _∙_, subst}
-use mathlib.Core.Bool.{Bool, true, false, not, _&&_, cond, true≢false}
-use Prim.Native.Nat.{ℕ, _*_, _≤_}
-use mathlib.Core.List.{List}
+use mathlib.Core.Bool.{Bool, true, false, not, _&&_, _||_, cond, true≢false}
+use Prim.Native.Nat.{ℕ, _*_, _≤_, _<_}
+use native.Mathlib.Omega.{arith}
+use mathlib.Core.List.{List, [], _∷_}
 use lib.Dec.{T, ltb, leb}
 use lib.ListN.{length}
 use lib.Ieee.{Float, nan, inf, fin, isNan, le, lt, eq, ofBits}
@@ -33,16 +34,24 @@ use Rattle.design.specs.declared.LawAnswer.the-variants as answer
 use Rattle.design.specs.declared.Pivots.{Pivots}
 use Rattle.design.specs.declared.Pivots.the-variants.{Hold, Fails}
 use Rattle.design.proofs.Bounds.{columns-p-within-one}
-use Rattle.eigen.specs.Spectrum.{spectrumOf, keptNumbers}
+use Rattle.projection.specs.Projection.{mamOf}
+use Rattle.tridiagonal.specs.Reflection.{tridiagonalOf}
+use Rattle.tridiagonal.specs.Bands.{diagonalOf, couplingsOf}
+use Rattle.ql.specs.Ql.{turnSweeps}
+use Rattle.ql.proofs.StuckLaws.{none-stuck}
+use Rattle.eigen.specs.Spectrum.{bandsStuck, spectrumOf, keptNumbers}
 use Rattle.eigen.specs.declared.Numbers.{Numbers}
 use Rattle.eigen.specs.declared.Spectrum.{Spectrum}
 use Rattle.eigen.specs.declared.Spectrum.the-variants.{MatrixNotFinite, NumberNotFinite, Kept}
-use Rattle.imhof.specs.Weights.{weightsOf}
+use Rattle.eigen.proofs.SpectrumLaws.{kept-told}
+use Rattle.imhof.specs.Weights.{weightsOf, Signs, none, above, below, mixed, signsOf}
+use Rattle.imhof.specs.Parts.{tolerance}
 use Rattle.imhof.specs.Imhof.{imhofOf}
 use Rattle.imhof.specs.declared.Estimate.{Estimate}
 use Rattle.imhof.specs.declared.Exact.{Exact}
 use Rattle.imhof.specs.declared.Exact.the-variants.{NoWeight, NotFinite, Value}
 use Rattle.imhof.proofs.Probability.{probability-within}
+use Rattle.imhof.proofs.Ending.{small-of-integral, small-of-certain, few-small}
 use Rattle.dwtest.specs.Refusals.{refusal, passes, columnsRefusal, statisticRefusal, rowsRefusal, pivotsRefusal, inverseRefusal, roomRefusal}
 use Rattle.dwtest.specs.Result.{refusedOf, acceptedOf, wantsExact, exactP, noLaw}
 use Rattle.dwtest.specs.Paths.{normalPath, exactPath, byLaw, bySpectrum, direct, together}
@@ -53,8 +62,8 @@ use Rattle.dwtest.specs.declared.Choice.{Choice}
 use Rattle.dwtest.specs.declared.paths.Leaving.{Leaving}
 use Rattle.dwtest.proofs.TestLaws.{pivot-fails, inverse-refused, too-few, by-normal, no-room, by-exact, columns-refused, statistic-refused, rows-refused, runs-pass}
 use Rattle.dwtest.proofs.SheetLaws.{sized-of, pivots-hold}
-use Rattle.theorems.specs.Document.{exactDue, fellBack}
-use Rattle.theorems.proofs.Order.{value-is, none-left, weight-left, valued}
+use Rattle.theorems.specs.Document.{empty, firstGiven, rows, bothSigns, exactDue, fellBack, weightsLeft, couplingWasLeft, errorSum, settledDue}
+use Rattle.theorems.proofs.Order.{value-is, none-left, weight-left, valued, as-document}
 use Rattle.theorems.proofs.Unit.{exact-p-within}
 
 module _ (e x : List Float) (k : ℕ) (a : Alternative) (choice : Choice) (matrixRoom partRoom : ℕ) where
@@ -73,45 +82,62 @@ module _ (e x : List Float) (k : ℕ) (a : Alternative) (choice : Choice) (matri
   abbrev outcome : Outcome
   outcome = testOf e x k a choice matrixRoom partRoom
 
+  abbrev due : Bool
+  due = exactDue e x k choice matrixRoom partRoom
+
   abbrev back : Bool
   back = fellBack e x k choice matrixRoom partRoom
+
+  abbrev left? : Bool
+  left? = couplingWasLeft e x k choice matrixRoom partRoom
+
+  -- what the exact path left to paths 3 and 4: they follow it only where it fell back, and then the sweeps alone decide the mark
+  abbrev pub LeftBy : Leaving → Type 0
+  LeftBy left = (left .fallback ≡ back) × (due ≡ back) × (left .settled ≡ (not due || not left?))
 
   -- what a property must be shown of
   pub record Shown (P : Outcome → Type 0) : Type 0 where
     -- a refusal
     pub refused : (r : Refusal) → passes r ≡ false → P (refusedOf r)
     -- path 1
-    pub short : ltb n 3 ≡ true → P (acceptedOf d one a n 1 false 0 noWork noLaw)
+    pub short : ltb n 3 ≡ true → P (acceptedOf d one a n 1 false 0 noWork true noLaw)
     -- paths 4 and 3, with what the exact path left
-    pub early : (left : Leaving) → left .fallback ≡ back → P (acceptedOf d one a n 4 (left .fallback) (left .kept) (left .work) noLaw)
-    pub normal : (left : Leaving) (law : NormalLaw) → left .fallback ≡ back → lawAnswer (lawFrom x n k inverse) ≡ answer.Usable law
-        → P (acceptedOf d (normalP law d a) a n 3 (left .fallback) (left .kept) (left .work) law)
+    pub early : (left : Leaving) → LeftBy left → P (acceptedOf d one a n 4 (left .fallback) (left .kept) (left .work) (left .settled) noLaw)
+    pub normal : (left : Leaving) (law : NormalLaw) → LeftBy left → lawAnswer (lawFrom x n k inverse) ≡ answer.Usable law
+        → P (acceptedOf d (normalP law d a) a n 3 (left .fallback) (left .kept) (left .work) (left .settled) law)
     -- path 2
-    pub exact : (s : Numbers) (q : Estimate) → back ≡ false → imhofOf kept d .answer ≡ Value q
-        → P (acceptedOf d (exactP (q .probability) a) a n 2 false (s .count) (together (s .work) (q .tally)) noLaw)
+    pub exact : (s : Numbers) (q : Estimate) → due ≡ true → back ≡ false → s .stuck ≡ left? → imhofOf kept d .answer ≡ Value q
+        → P (acceptedOf d (exactP (q .probability) a) a n 2 false (s .count) (together (s .work) (q .tally)) (not (s .stuck) && q .small) noLaw)
+
+  -- the eigenvalues' mark is whether a coupling was left
+  stuck-is : (s : Numbers) → spectrumOf x inverse n k ≡ Kept s → s .stuck ≡ left?
+  unfolding bandsStuck
+  stuck-is s g = kept-told x inverse n k s g .1
 
   module _ (P : Outcome → Type 0) (shown : Shown P) where
-    normal-shown : (left : Leaving) → left .fallback ≡ back → P (normalPath x n k inverse d a left)
+    normal-shown : (left : Leaving) → LeftBy left → P (normalPath x n k inverse d a left)
     unfolding normalPath
     normal-shown left f = go (ltb n 5) (lawAnswer (lawFrom x n k inverse)) refl
       where
         go : (b : Bool) (l : LawAnswer) → lawAnswer (lawFrom x n k inverse) ≡ l
-            → P (cond b (acceptedOf d one a n 4 (left .fallback) (left .kept) (left .work) noLaw) (byLaw l d a n left))
+            → P (cond b (acceptedOf d one a n 4 (left .fallback) (left .kept) (left .work) (left .settled) noLaw) (byLaw l d a n left))
         go true l h = shown .early left f
         go false (answer.Usable law) h = shown .normal left law f h
         go false answer.NotFinite h = shown .refused (refusal 13 5) refl
         go false answer.NotSpread h = shown .refused (refusal 14 0) refl
 
-    exact-shown : exactDue e x k choice matrixRoom partRoom ≡ true → P (exactPath x n k inverse d a)
+    exact-shown : due ≡ true → P (exactPath x n k inverse d a)
     unfolding exactPath
-    exact-shown due = go (spectrumOf x inverse n k) (imhofOf kept d .answer) refl
+    exact-shown is-due = go (spectrumOf x inverse n k) refl (imhofOf kept d .answer) refl
       where
-        go : (s : Spectrum) (q : Exact) → imhofOf kept d .answer ≡ q → P (bySpectrum x n k inverse d a s)
-        go MatrixNotFinite q h = shown .refused (refusal 13 2) refl
-        go NumberNotFinite q h = shown .refused (refusal 13 3) refl
-        go (Kept s) NoWeight h = rw h (normal-shown (record { fallback = true; kept = s .count; work = s .work }) (rw (due, none-left kept d h) refl))
-        go (Kept s) NotFinite h = rw h (shown .refused (refusal 13 4) refl)
-        go (Kept s) (Value q) h = rw h (shown .exact s q (rw (due, weight-left kept d (Value q) h valued) refl) h)
+        go : (s : Spectrum) → spectrumOf x inverse n k ≡ s → (q : Exact) → imhofOf kept d .answer ≡ q → P (bySpectrum x n k inverse d a s)
+        go MatrixNotFinite g q h = shown .refused (refusal 13 2) refl
+        go NumberNotFinite g q h = shown .refused (refusal 13 3) refl
+        go (Kept s) g NoWeight h =
+            rw h (normal-shown (record { fallback = true; kept = s .count; work = s .work; settled = not (s .stuck) })
+            (rw (is-due, none-left kept d h, stuck-is s g) (refl, refl, refl)))
+        go (Kept s) g NotFinite h = rw h (shown .refused (refusal 13 4) refl)
+        go (Kept s) g (Value q) h = rw h (shown .exact s q is-due (rw (is-due, weight-left kept d (Value q) h valued) refl) (stuck-is s g) h)
 
     decided-shown : P (designOf x n k d a choice matrixRoom partRoom)
     decided-shown =
@@ -125,7 +151,7 @@ module _ (e x : List Float) (k : ℕ) (a : Alternative) (choice : Choice) (matri
             subst P (sym (inverse-refused x n k d a choice matrixRoom partRoom inverse h refl g .0)) (shown .refused (inverseRefusal k inverse) g)
         go Hold h true g true j w l r m = subst P (sym (too-few x n k d a choice matrixRoom partRoom inverse h refl g j .0)) (shown .short j)
         go Hold h true g false j false l r m =
-            subst P (sym (by-normal x n k d a choice matrixRoom partRoom inverse h refl g j l .0)) (normal-shown direct (rw (j, l) refl))
+            subst P (sym (by-normal x n k d a choice matrixRoom partRoom inverse h refl g j l .0)) (normal-shown direct (rw (j, l) (refl, refl, refl)))
         go Hold h true g false j true l false m =
             subst P (sym (no-room x n k d a choice matrixRoom partRoom inverse h refl g j l m .0)) (shown .refused (roomRefusal n matrixRoom partRoom) m)
         go Hold h true g false j true l true m =
@@ -170,7 +196,7 @@ module _ (e x : List Float) (k : ℕ) (a : Alternative) (choice : Choice) (matri
     short = λ h q. refl;
     early = λ left h q. refl;
     normal = λ left law h l q. refl;
-    exact = λ s v h w q. refl;
+    exact = λ s v u h t w q. refl;
   })
 
   -- DEMAND 3: where the residuals and their exact neighbour differences are each 0 or from 2^-250 to 2^250 in size, the reported statistic is off the exact quotient by
@@ -190,7 +216,7 @@ module _ (e x : List Float) (k : ℕ) (a : Alternative) (choice : Choice) (matri
     short = λ h q. whole;
     early = λ left h q. whole;
     normal = λ left law h l q. columns-p-within-one x n k inverse law d a l fine;
-    exact = λ s v h w q. let r = probability-within kept d v w in exact-p-within (v .probability) a (number (v .probability) (r .0)) (r .0) (r .1);
+    exact = λ s v u h t w q. let r = probability-within kept d v w in exact-p-within (v .probability) a (number (v .probability) (r .0)) (r .0) (r .1);
   }) q
     where
       fine : finite d ≡ true
@@ -206,22 +232,82 @@ module _ (e x : List Float) (k : ℕ) (a : Alternative) (choice : Choice) (matri
 
   -- ---- settled, and the fallback
 
-  -- SETTLED exactly when accepted with fewer than 2,000 bisections
-  pub settled-when : outcome .settled ≡ (passes (outcome .refusal) && ltb (outcome .work .bisections) 2000)
-  settled-when = every (λ o. o .settled ≡ (passes (o .refusal) && ltb (o .work .bisections) 2000)) (record {
+  abbrev weights : List Float
+  weights = weightsLeft e x k choice matrixRoom partRoom
+
+  abbrev sum : Float
+  sum = errorSum e x k choice matrixRoom partRoom
+
+  abbrev matrix : List Float
+  matrix = tridiagonalOf n (mamOf x inverse n k)
+
+  abbrev mark : Bool
+  mark = settledDue e x k choice matrixRoom partRoom
+
+  -- no weight is of both signs where none is left
+  none-of-both : (ws : List Float) → empty ws ≡ true → bothSigns (signsOf ws) ≡ false
+  none-of-both [] h = refl
+  none-of-both (w ∷ ws) h = absurd (true≢false (sym h))
+
+  -- paths 3 and 4
+  left-mark : (left : Leaving) → LeftBy left → left .settled ≡ mark
+  left-mark left h = go due refl
+    where
+      and-true : (b : Bool) → b ≡ (b && true)
+      and-true true = refl
+      and-true false = refl
+
+      go : (b : Bool) → due ≡ b → left .settled ≡ mark
+      go false u = h .2 ∙ rw u refl
+      go true u = h .2 ∙ rw (u, none-of-both weights (rw u at (sym (h .1) ∙ u))) (and-true (not left?))
+
+  -- path 2
+  exact-mark : (s : Numbers) (q : Estimate) → due ≡ true → s .stuck ≡ left? → imhofOf kept d .answer ≡ Value q → (not (s .stuck) && q .small) ≡ mark
+  exact-mark s q u t w = rw (u, t) (ap (λ b. not left? && b) (go (signsOf weights) refl))
+    where
+      go : (g : Signs) → signsOf weights ≡ g → q .small ≡ (not (bothSigns (signsOf weights)) || le sum tolerance)
+      go none p = small-of-certain kept d q (λ m. true≢false (sym (ap bothSigns (sym p ∙ m)))) w ∙ rw p refl
+      go above p = small-of-certain kept d q (λ m. true≢false (sym (ap bothSigns (sym p ∙ m)))) w ∙ rw p refl
+      go below p = small-of-certain kept d q (λ m. true≢false (sym (ap bothSigns (sym p ∙ m)))) w ∙ rw p refl
+      go mixed p = small-of-integral kept d q p w ∙ rw p refl
+
+  settled-by : outcome .settled ≡ (passes (outcome .refusal) && mark)
+  settled-by = every (λ o. o .settled ≡ (passes (o .refusal) && mark)) (record {
     refused = λ r h. rw h refl;
-    short = λ h. refl;
-    early = λ left h. refl;
-    normal = λ left law h l. refl;
-    exact = λ s v h w. refl;
+    short = λ h. rw h refl;
+    early = λ left h. left-mark left h;
+    normal = λ left law h l. left-mark left h;
+    exact = λ s v u h t w. exact-mark s v u t w;
   })
+
+  -- SETTLED exactly when nothing is refused and, where the exact path was due, no index had a coupling left after its turn and the weights are not of both signs or the
+  -- final error sum is at most 5e-12
+  pub settled-when : outcome .settled ≡ (passes (firstGiven (rows e x k choice matrixRoom partRoom)) && mark)
+  settled-when = settled-by ∙ ap (λ r. passes r && mark) (as-document e x k a choice matrixRoom partRoom)
+
+  -- AS BEFORE W-201 where no index made 60 sweeps: with fewer than 2,000 bisections every accepted call is settled
+  pub settled-as-before : ((l : ℕ) → l < n → turnSweeps n l (diagonalOf n matrix) (couplingsOf n matrix) noWork < 60) → outcome .work .bisections < 2000 → outcome .settled ≡ passes (outcome .refusal)
+  settled-as-before few = every (λ o. o .work .bisections < 2000 → o .settled ≡ passes (o .refusal)) (record {
+    refused = λ r h b. sym h;
+    short = λ h b. refl;
+    early = λ left h b. h .2 ∙ ended due;
+    normal = λ left law h l b. h .2 ∙ ended due;
+    exact = λ s v u h t w b. rw (t, none, few-small kept d v w b) refl;
+  })
+    where
+      none : left? ≡ false
+      none = none-stuck n n (diagonalOf n matrix) (couplingsOf n matrix) noWork few
+
+      ended : (b : Bool) → (not b || not left?) ≡ true
+      ended false = refl
+      ended true = rw none refl
 
   -- THE FALLBACK exactly when the exact path was due and left no weight, and nothing is refused
   pub fallback-when : outcome .fallback ≡ (passes (outcome .refusal) && back)
   fallback-when = every (λ o. o .fallback ≡ (passes (o .refusal) && back)) (record {
     refused = λ r h. rw h refl;
     short = λ h. rw h refl;
-    early = λ left h. h;
-    normal = λ left law h l. h;
-    exact = λ s v h w. sym h;
+    early = λ left h. h .0;
+    normal = λ left law h l. h .0;
+    exact = λ s v u h t w. sym h;
   })

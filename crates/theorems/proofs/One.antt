@@ -1,6 +1,6 @@
 -- Any two outcomes that a promise allows are one and the same, result and lent runs: of the test, and of the layers below it whose crates do not say so themselves. Each
 -- promise says what its result and its runs at the end equal. Assumes nothing.
-use mathlib.Core.Path.{_≡_, sym, _∙_}
+use mathlib.Core.Path.{_≡_, sym, ap, _∙_, subst}
 use mathlib.Core.List.{List, _++_}
 use Prim.Native.Nat.{ℕ, _+_, _*_}
 use lib.ListN.{length, drop}
@@ -13,7 +13,8 @@ use Rattle.design.specs.declared.Alternative.{Alternative}
 use Rattle.projection.specs.Projection.{mamOf, residualMaker}
 use Rattle.tridiagonal.specs.Reflection.{tridiagonalOf}
 use Rattle.tridiagonal.specs.Bands.{diagonalOf, couplingsOf}
-use Rattle.ql.specs.Ql.{qlOf}
+use Rattle.ql.specs.Ql.{qlOf, stuckOf}
+use Rattle.ql.specs.declared.Swept.{Swept}
 use Rattle.eigen.specs.Spectrum.{spectrumOf, keptNumbers, frontOf}
 use Rattle.eigen.specs.declared.Spectrum.{Spectrum}
 use Rattle.imhof.specs.Room.{laidOut}
@@ -76,8 +77,11 @@ module _ (n : ℕ) (a : List Float) where
     one-bands p p' q q' f g = (both (f .0) (g .0), both (f .1) (g .1))
 
 module _ (n : ℕ) (d e : List Float) (work : Tally) where
-  abbrev pub Swept : Tally → List Float → List Float → Type 0
-  Swept t d' e' = (t ≡ qlOf n n d e work .work) × (d' ≡ qlOf n n d e work .diagonal) × (e' ≡ qlOf n n d e work .coupling)
+  abbrev pub SweptTo : Swept → List Float → List Float → Type 0
+  SweptTo r d' e' = (r .work ≡ qlOf n n d e work .work) × (r .stuck ≡ stuckOf n n d e work) × (d' ≡ qlOf n n d e work .diagonal) × (e' ≡ qlOf n n d e work .coupling)
 
-  pub one-sweeping : (t u : Tally) (p p' q q' : List Float) → Swept t p q → Swept u p' q' → (t ≡ u) × (p ≡ p') × (q ≡ q')
-  one-sweeping t u p p' q q' f g = (both (f .0) (g .0), both (f .1) (g .1), both (f .2) (g .2))
+  pub one-sweeping : (r s : Swept) (p p' q q' : List Float) → SweptTo r p q → SweptTo s p' q' → (r ≡ s) × (p ≡ p') × (q ≡ q')
+  one-sweeping r s p p' q q' f g = (same (both (f .0) (g .0)) (both (f .1) (g .1)), both (f .2) (g .2), both (f .3) (g .3))
+    where
+      same : r .work ≡ s .work → r .stuck ≡ s .stuck → r ≡ s
+      same h k = subst (λ b. r ≡ record { work = s .work; stuck = b }) k (ap (λ w. record { work = w; stuck = r .stuck }) h)

@@ -1,4 +1,5 @@
 -- Document 01's table of refusals, row by row in the order tried: when a row is given, and its number and place. A row is asked only where none above it holds.
+-- And when an accepted call is settled (document 02, W-201).
 -- e is the run of n residuals, x the run of k columns; of the rooms only the lengths decide. Definitions only. Assumes nothing.
 use Prim.Native.Nat.{ℕ, _*_}
 use mathlib.Core.Path.{_≡_}
@@ -7,9 +8,11 @@ use mathlib.Core.Bool.{Bool, true, false, not, _&&_, _||_, cond}
 use mathlib.Core.List.{List, [], _∷_}
 use lib.Dec.{ltb, leb, eqb}
 use lib.ListN.{length}
-use lib.Ieee.{Float, eq, lt}
+use lib.Ieee.{Float, eq, lt, le}
 use lib.Ieee.Scale.{finite}
 use Rattle.floats.specs.Words.{plusZero}
+use Rattle.floats.specs.Sums.{sumRun}
+use Rattle.floats.specs.Count.{noWork}
 use Rattle.floats.specs.Search.{firstWhere, firstBad}
 use Rattle.floats.specs.declared.search.Found.{Found}
 use Rattle.floats.specs.declared.search.Found.the-variants.{At, Nothing}
@@ -20,9 +23,13 @@ use Rattle.design.specs.Factor.{failsAt}
 use Rattle.design.specs.Inverse.{inverseOf}
 use Rattle.design.specs.Law.{lawOf}
 use Rattle.projection.specs.Projection.{mamOf}
+use Rattle.tridiagonal.specs.Reflection.{tridiagonalOf}
+use Rattle.tridiagonal.specs.Bands.{diagonalOf, couplingsOf}
+use Rattle.ql.specs.Ql.{stuckOf}
 use Rattle.eigen.specs.Spectrum.{numbersOf, keptNumbers}
-use Rattle.imhof.specs.Weights.{weightsOf}
-use Rattle.imhof.specs.Imhof.{imhofOf}
+use Rattle.imhof.specs.Weights.{weightsOf, Signs, none, above, below, mixed, signsOf}
+use Rattle.imhof.specs.Parts.{errorsOf, tolerance}
+use Rattle.imhof.specs.Imhof.{lastStage, imhofOf}
 use Rattle.imhof.specs.declared.Exact.{Exact}
 use Rattle.imhof.specs.declared.Exact.the-variants.{NoWeight, NotFinite, Value}
 use Rattle.dwtest.specs.Refusals.{passed, refusal}
@@ -63,6 +70,13 @@ broken NoWeight = false
 broken NotFinite = true
 broken (Value q) = false
 
+-- the weights have both signs, so that an integral is needed
+abbrev pub bothSigns : Signs → Bool
+bothSigns none = false
+bothSigns above = false
+bothSigns below = false
+bothSigns mixed = true
+
 module _ (e x : List Float) (k : ℕ) (choice : Choice) (matrixRoom partRoom : ℕ) where
   -- the rows, M A M, the kept eigenvalues, and the law
   abbrev pub rowsOf : ℕ
@@ -77,12 +91,15 @@ module _ (e x : List Float) (k : ℕ) (choice : Choice) (matrixRoom partRoom : �
   abbrev pub lawDueOf : NormalLaw
   lawDueOf = lawOf x rowsOf k
 
-  -- the exact path is due; of its weights none is left
+  -- the exact path is due; its weights; of them none is left
   abbrev pub exactDue : Bool
   exactDue = not (ltb rowsOf 3) && wantsExact choice rowsOf
 
+  abbrev pub weightsLeft : List Float
+  weightsLeft = weightsOf keptOf (durbinWatson e)
+
   abbrev pub noWeightLeft : Bool
-  noWeightLeft = empty (weightsOf keptOf (durbinWatson e))
+  noWeightLeft = empty weightsLeft
 
   -- the exact path was due and left no weight
   abbrev pub fellBack : Bool
@@ -120,6 +137,18 @@ module _ (e x : List Float) (k : ℕ) (choice : Choice) (matrixRoom partRoom : �
       ∷ row (found (firstWhere k (failsAt x rowsOf))) 11 (foundAt (firstWhere k (failsAt x rowsOf)))
       ∷ row (not (finiteMatrix k (inverseOf x rowsOf k))) 13 1
       ∷ lastRows
+
+  -- an index of the QL step still had a coupling left after its turn
+  abbrev pub couplingWasLeft : Bool
+  couplingWasLeft = stuckOf rowsOf rowsOf (diagonalOf rowsOf (tridiagonalOf rowsOf productOf)) (couplingsOf rowsOf (tridiagonalOf rowsOf productOf)) noWork
+
+  -- the final sum of the parts' errors, first to last
+  abbrev pub errorSum : Float
+  errorSum = sumRun (errorsOf (lastStage weightsLeft .parts))
+
+  -- THE MARK: the sweeps ended, and the integral where one was needed; both belong to the exact path
+  abbrev pub settledDue : Bool
+  settledDue = not exactDue || (not couplingWasLeft && (not (bothSigns (signsOf weightsLeft)) || le errorSum tolerance))
 
 -- g is given by a table: a row holds, gives g, and none above it holds
 unfoldable pub Given : List Row → Refusal → Type 0

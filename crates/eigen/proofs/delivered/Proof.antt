@@ -66,18 +66,18 @@ enum-told-2 : tie.Need-enum-told-2
 enum-told-2 c = search needs
 
 order-requires : tie.Need-order-requires
-order-requires c κs = search needs
+order-requires c κs = omega (arith, c .before .before .before .before .before .before .before .before .before .before .ql .kept .0, c .before .before .before .before .before .before .before .before .before .before .before .before .before .before .before .before .before .before .bands .kept .1 .1 .0, c .before .before .before .before .before .before .before .before .before .before .before .before .before .before .before .before .before .before .before .before .before .before .before .before .before .before .before .before .before .before .pre .4)
 
 sub-keep : tie.Need-sub-keep
 sub-keep c =
-    let pre = c .before .before .before .before .before .before .before .before .before .before .before .before .before .before .before .before .before .before .before .before .before .before .before .before .before .before .before .before .before .before .before .before .before .pre in
+    let pre = c .before .before .before .before .before .before .before .before .before .before .before .before .before .before .before .before .before .before .before .before .before .before .before .before .before .before .before .before .before .before .before .before .before .before .pre in
     omega (arith, pre .2)
 
 keep-requires : tie.Need-keep-requires
 keep-requires c κs =
-    let pre = c .before .before .before .before .before .before .before .before .before .before .before .before .before .before .before .before .before .before .before .before .before .before .before .before .before .before .before .before .before .before .before .before .before .before .pre in
-    let bands = c .before .before .before .before .before .before .before .before .before .before .before .before .before .before .before .before .before .before .before .before .before .before .bands in
-    let ql = c .before .before .before .before .before .before .before .before .before .before .before .before .before .before .ql in
+    let pre = c .before .before .before .before .before .before .before .before .before .before .before .before .before .before .before .before .before .before .before .before .before .before .before .before .before .before .before .before .before .before .before .before .before .before .before .pre in
+    let bands = c .before .before .before .before .before .before .before .before .before .before .before .before .before .before .before .before .before .before .before .before .before .before .before .bands in
+    let ql = c .before .before .before .before .before .before .before .before .before .before .before .before .before .before .before .ql in
     let order = c .before .before .before .before .order in
     (omega (arith, order .kept .0, ql .kept .0, bands .kept .1 .1 .0, pre .4), omega (arith, pre .6))
 
@@ -92,24 +92,24 @@ same-length-3 c = search needs
 
 returns : tie.Need-returns
 returns c =
-    let args = c .before .before .before .before .before .before .before .before .before .before .before .before .before .before .before .before .before .before .before .before .before .before .before .before .before .before .before .before .args in
-    let pre = c .before .before .before .before .before .before .before .before .before .before .before .before .before .before .before .before .before .before .before .before .before .before .before .before .before .before .before .before .pre in
-    let tridiagonalize = c .before .before .before .before .before .before .before .before .before .before .before .before .before .before .before .before .before .before .before .before .before .before .tridiagonalize in
-    let bands = c .before .before .before .before .before .before .before .before .before .before .before .before .before .before .before .before .bands in
-    let new = c .before .before .before .before .before .before .before .before .before .new in
-    let ql = c .before .before .before .before .before .before .before .before .ql in
+    let args = c .before .before .before .before .before .before .before .before .before .before .before .before .before .before .before .before .before .before .before .before .before .before .before .before .before .before .before .before .before .args in
+    let pre = c .before .before .before .before .before .before .before .before .before .before .before .before .before .before .before .before .before .before .before .before .before .before .before .before .before .before .before .before .before .pre in
+    let tridiagonalize = c .before .before .before .before .before .before .before .before .before .before .before .before .before .before .before .before .before .before .before .before .before .before .before .tridiagonalize in
+    let bands = c .before .before .before .before .before .before .before .before .before .before .before .before .before .before .before .before .before .bands in
+    let new = c .before .before .before .before .before .before .before .before .before .before .new in
+    let ql = c .before .before .before .before .before .before .before .before .before .ql in
     let l : length (tridiagonalize .last .0) ≡ args .n * args .n = omega (arith, tridiagonalize .kept .0, length-take (args .n * args .n) (args .room .now)) in
     let w = worked-is (args .n) (take (args .n * args .n) (args .room .now)) (tridiagonalize .last .0) _ (args .d .now) (args .e .now) (bands .last .1 .1 .0) (bands .last .1 .1 .1 .0) (new .result) l (tridiagonalize .ensures) (pre .4) (pre .5) (bands .ensures .0) (bands .ensures .1) (new .ensures) in
-    let v : ql .last .0 ≡ numbersOf (args .n) (take (args .n * args .n) (args .room .now)) = ql .ensures .1 .0 ∙ ap (λ s. s .diagonal) w in
+    let v : ql .last .0 ≡ numbersOf (args .n) (take (args .n * args .n) (args .room .now)) = ql .ensures .1 .0 ∙ ap (λ s. s .diagonal) (w .0) in
     let f = ap firstBad (sym v) ∙ sym (c .before .before .first-bad .ensures) in
     let z = number-bad (args .n) (args .k) (take (args .n * args .n) (args .room .now)) _ (f ∙ c .enum-told .given .1) in
     (sym (z .0), (rw (tridiagonalize .ensures) refl, rw (z .1) refl))
 
 same-length-4 : tie.Need-same-length-4
 same-length-4 c =
-    let args = c .before .before .before .before .before .before .before .before .before .before .before .before .before .before .before .before .before .before .before .before .before .before .before .before .before .before .before .before .before .before .before .before .before .before .before .before .before .args in
-    let pre = c .before .before .before .before .before .before .before .before .before .before .before .before .before .before .before .before .before .before .before .before .before .before .before .before .before .before .before .before .before .before .before .before .before .before .before .before .before .pre in
-    let tridiagonalize = c .before .before .before .before .before .before .before .before .before .before .before .before .before .before .before .before .before .before .before .before .before .before .before .before .before .before .before .before .before .before .before .tridiagonalize in
+    let args = c .before .before .before .before .before .before .before .before .before .before .before .before .before .before .before .before .before .before .before .before .before .before .before .before .before .before .before .before .before .before .before .before .before .before .before .before .before .before .args in
+    let pre = c .before .before .before .before .before .before .before .before .before .before .before .before .before .before .before .before .before .before .before .before .before .before .before .before .before .before .before .before .before .before .before .before .before .before .before .before .before .before .pre in
+    let tridiagonalize = c .before .before .before .before .before .before .before .before .before .before .before .before .before .before .before .before .before .before .before .before .before .before .before .before .before .before .before .before .before .before .before .before .tridiagonalize in
     simp (length-append, length-drop) (omega (arith, tridiagonalize .kept .0, length-take (args .n * args .n) (args .room .now), pre .0))
 
 same-length-5 : tie.Need-same-length-5
@@ -123,22 +123,22 @@ same-length-7 c = search needs
 
 returns-2 : tie.Need-returns-2
 returns-2 c =
-    let args = c .before .before .before .before .before .before .before .before .before .before .before .before .before .before .before .before .before .before .before .before .before .before .before .before .before .before .before .before .before .before .before .before .before .before .before .before .before .args in
-    let pre = c .before .before .before .before .before .before .before .before .before .before .before .before .before .before .before .before .before .before .before .before .before .before .before .before .before .before .before .before .before .before .before .before .before .before .before .before .before .pre in
-    let tridiagonalize = c .before .before .before .before .before .before .before .before .before .before .before .before .before .before .before .before .before .before .before .before .before .before .before .before .before .before .before .before .before .before .before .tridiagonalize in
-    let bands = c .before .before .before .before .before .before .before .before .before .before .before .before .before .before .before .before .before .before .before .before .before .before .before .before .before .bands in
-    let new = c .before .before .before .before .before .before .before .before .before .before .before .before .before .before .before .before .before .before .new in
-    let ql = c .before .before .before .before .before .before .before .before .before .before .before .before .before .before .before .before .before .ql in
+    let args = c .before .before .before .before .before .before .before .before .before .before .before .before .before .before .before .before .before .before .before .before .before .before .before .before .before .before .before .before .before .before .before .before .before .before .before .before .before .before .args in
+    let pre = c .before .before .before .before .before .before .before .before .before .before .before .before .before .before .before .before .before .before .before .before .before .before .before .before .before .before .before .before .before .before .before .before .before .before .before .before .before .before .pre in
+    let tridiagonalize = c .before .before .before .before .before .before .before .before .before .before .before .before .before .before .before .before .before .before .before .before .before .before .before .before .before .before .before .before .before .before .before .before .tridiagonalize in
+    let bands = c .before .before .before .before .before .before .before .before .before .before .before .before .before .before .before .before .before .before .before .before .before .before .before .before .before .before .bands in
+    let new = c .before .before .before .before .before .before .before .before .before .before .before .before .before .before .before .before .before .before .before .new in
+    let ql = c .before .before .before .before .before .before .before .before .before .before .before .before .before .before .before .before .before .before .ql in
     let first-bad = c .before .before .before .before .before .before .before .before .before .before .before .first-bad in
     let enum-told2 = c .before .before .before .before .before .before .before .before .before .enum-told2 in
     let order = c .before .before .before .before .before .before .before .order in
     let keep = c .before .before .keep in
     let l : length (tridiagonalize .last .0) ≡ args .n * args .n = omega (arith, tridiagonalize .kept .0, length-take (args .n * args .n) (args .room .now), pre .0) in
     let w = worked-is (args .n) (take (args .n * args .n) (args .room .now)) (tridiagonalize .last .0) _ (args .d .now) (args .e .now) (bands .last .1 .1 .0) (bands .last .1 .1 .1 .0) (new .result) l (tridiagonalize .ensures) (pre .4) (pre .5) (bands .ensures .0) (bands .ensures .1) (new .ensures) in
-    let v : ql .last .0 ≡ numbersOf (args .n) (take (args .n * args .n) (args .room .now)) = ql .ensures .1 .0 ∙ ap (λ s. s .diagonal) w in
+    let v : ql .last .0 ≡ numbersOf (args .n) (take (args .n * args .n) (args .room .now)) = ql .ensures .1 .0 ∙ ap (λ s. s .diagonal) (w .0) in
     let f = ap firstBad (sym v) ∙ sym (first-bad .ensures) in
     let z = numbers-good (args .n) (args .k) (take (args .n * args .n) (args .room .now)) (order .last .0) (f ∙ enum-told2 .given .1) (order .ensures ∙ rw v) in
-    (rw (z .0, keep .ensures .0, ql .ensures .0, w), (rw (tridiagonalize .ensures) refl, rw (z .1) (keep .ensures .1)))
+    (rw (z .0, keep .ensures .0, ql .ensures .0 .0, ql .ensures .0 .1, w .0, w .1), (rw (tridiagonalize .ensures) refl, rw (z .1) (keep .ensures .1)))
 
 pub delivered-spec : {M : Type 1} → statement M
 delivered-spec =

@@ -1,7 +1,7 @@
 use native.Mathlib.Omega.{arith}
 use mathlib.Core.Path.{_≡_, refl, sym, ap, _∙_}
 use Rattle.eigen.specs.Spectrum.{keptNumbers}
-use Rattle.eigen.proofs.SpectrumLaws.{kept-count, kept-within, beyond}
+use Rattle.eigen.proofs.SpectrumLaws.{kept-told, kept-within, beyond}
 use Rattle.dwtest.specs.Paths.{exactPath}
 use Rattle.dwtest.proofs.TestLaws.{front}
 use borrow.Author.Needs.{needs}
@@ -43,7 +43,7 @@ probability-requires c κs =
     let args = c .before .before .before .before .before .before .before .before .before .before .before .before .before .before .args in
     let ma-eigenvalues = c .before .before .before .before .before .before .before .before .ma-eigenvalues in
     let spectrum = c .before .before .before .spectrum in
-    let h = kept-count (args .columns .now) (args .inverse) (args .n) (args .k) _ (sym (ma-eigenvalues .ensures .0) ∙ spectrum .given .1) in
+    let h = kept-told (args .columns .now) (args .inverse) (args .n) (args .k) _ (sym (ma-eigenvalues .ensures .0) ∙ spectrum .given .1) .0 in
     let w = kept-within (args .columns .now) (args .inverse) (args .n) (args .k) in
     (omega (arith, ma-eigenvalues .kept .1 .1 .1 .1 .1 .0), omega arith, omega arith)
 
@@ -83,7 +83,7 @@ returns-3 c =
     let ma-eigenvalues = c .before .before .before .before .before .before .before .before .before .before .before .before .ma-eigenvalues in
     let spectrum = c .before .before .before .before .before .before .before .spectrum in
     let probability = c .before .before .before .probability in
-    let h = kept-count (args .columns .now) (args .inverse) (args .n) (args .k) _ (sym (ma-eigenvalues .ensures .0) ∙ spectrum .given .1) in
+    let h = kept-told (args .columns .now) (args .inverse) (args .n) (args .k) _ (sym (ma-eigenvalues .ensures .0) ∙ spectrum .given .1) .0 in
     let a = probability .ensures .0 ∙ front (ma-eigenvalues .last .1 .1 .1 .1 .1 .0) (keptNumbers (args .columns .now) (args .inverse) (args .n) (args .k)) _ (spectrum .given .0 .0 .count) (args .d) (ma-eigenvalues .ensures .1 .0) h in
     (rw (c .by-imhof .ensures, a, ← ma-eigenvalues .ensures .0, spectrum .given .1), (beyond (args .columns .now) (args .inverse) (args .n) (args .k) (args .matrix .now) _ (ma-eigenvalues .ensures .1 .1), probability .ensures .1))
 
