@@ -1,6 +1,6 @@
 #!/usr/bin/env python3
 """Writes the stored input of try_dwtest, and its lines by the oracle's first build: each refusal number with the places that a whole call reaches, each
-path, the fallback, document 01's sheets P1 to P12 and those that are run only, and rooms of every kind of length.
+path, the fallback, document 01's sheets P1 to P12 and those that are run only, rooms of every kind of length, and the sheets at the limit of 60 sweeps.
 
 Usage: cases.py               writes stdin and stdout beside this file (oracle/build port first)
        cases.py --check       asks the oracle again and compares; writes nothing
@@ -12,7 +12,12 @@ import subprocess
 import sys
 
 HERE = os.path.dirname(os.path.abspath(__file__))
-ORACLE = os.path.join(HERE, '..', '..', 'oracle', 'sheets')
+TOP = os.path.dirname(os.path.dirname(HERE))
+ORACLE = os.path.join(TOP, 'oracle', 'sheets')
+sys.dont_write_bytecode = True
+sys.path.insert(0, os.path.join(TOP, 'oracle', 'tools'))
+import limits  # noqa: E402
+
 GREATER, LESS, TWO_SIDED = 0, 1, 2
 DEFAULT, EXACT, NORMAL = 0, 1, 2
 NAN, INFINITY = float('nan'), float('inf')
@@ -147,6 +152,12 @@ def lengths():
     yield 'refusal 13 3', '13, place 3: rooms just long enough', [-1, 0, 0, 1], [0, 0, 1, 2.0 ** -537], 1, EXACT, 32, 8004
 
 
+def at_the_limit():
+    """The sheets of oracle/tools/limits.py."""
+    for (shows, e, columns, choice), fields in limits.answered():
+        yield 'path ' + fields[5], shows, e, [x for column in columns for x in column], len(columns), choice
+
+
 def cases():
     """(what document 01 asks, name, residuals, columns, k, alternative, choice, matrix room, part room)"""
     for due, name, e, x, k, choice in document():
@@ -158,6 +169,8 @@ def cases():
             yield due, name, e, x, k, alternative, choice, FULL[0], FULL[1]
     for due, name, e, x, k, choice, matrix, parts in lengths():
         yield due, name, e, x, k, LESS, choice, matrix, parts
+    for due, name, e, x, k, choice in at_the_limit():
+        yield due, name, e, x, k, GREATER, choice, FULL[0], FULL[1]
 
 
 def call(e, x, k, alternative, choice, matrix, parts):

@@ -1,6 +1,6 @@
 #!/usr/bin/env python3
-"""Writes the stored input of try_eigen, and its lines by the oracle's first build: small designs, degenerate ones, and inverses that no X'X has, which
-reach stages 2 and 3 of refusal 13 at their own step.
+"""Writes the stored input of try_eigen, and its lines by the oracle's first build: small designs, degenerate ones, inverses that no X'X has, which
+reach stages 2 and 3 of refusal 13 at their own step, and designs at the limit of 60 sweeps.
 
 Usage: cases.py               writes stdin and stdout beside this file (oracle/build port first)
        cases.py --check       asks the oracle again and compares; writes nothing
@@ -12,7 +12,12 @@ import subprocess
 import sys
 
 HERE = os.path.dirname(os.path.abspath(__file__))
-ORACLE = os.path.join(HERE, '..', '..', 'oracle', 'sheets')
+TOP = os.path.dirname(os.path.dirname(HERE))
+ORACLE = os.path.join(TOP, 'oracle', 'sheets')
+sys.dont_write_bytecode = True
+sys.path.insert(0, os.path.join(TOP, 'oracle', 'tools'))
+import limits  # noqa: E402
+
 NAN, INFINITY = float('nan'), float('inf')
 CUT = 'the input is cut short\n'
 
@@ -83,11 +88,22 @@ def by_inverse():
     yield '0 0', 'after a refusal the room holds no more than numbers to be overwritten', [ones(4)], [[0.25]]
 
 
+def at_the_limit():
+    """The designs of oracle/tools/limits.py, each once, with the count, the sweeps and the mark of its first sheet's line."""
+    seen = []
+    for (shows, _, columns, _), fields in limits.answered():
+        if columns not in seen:
+            seen.append(columns)
+            yield '0 0 %s %s %d' % (fields[7], fields[8], fields[11] == '0'), shows, columns
+
+
 def cases():
-    """(what document 01 asks, name, columns, inverse or None)"""
+    """(what is due behind the index, name, columns, inverse or None)"""
     for due, name, columns in by_columns():
         yield due, name, columns, None
     yield from by_inverse()
+    for due, name, columns in at_the_limit():
+        yield due, name, columns, None
 
 
 def design(columns, inverse=None):
@@ -110,7 +126,7 @@ def oracle_lines(data, build='port'):
 def lines(data):
     answers = oracle_lines(data)
     for (due, name, _, _), line in zip(cases(), answers):
-        if ' '.join(line.split()[1:3]) != due:
+        if line.split()[1:len(due.split()) + 1] != due.split():
             raise SystemExit('cases.py: %s: %s is due, and the oracle says: %s' % (name, due, line))
     return answers
 

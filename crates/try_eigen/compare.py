@@ -1,6 +1,6 @@
 #!/usr/bin/env python3
-"""Holds try_eigen against the oracle's first build, bit for bit: kept eigenvalues, their count, the sweeps, and the refusals, on designs of 3 to
-256 rows and 1 to 8 columns, degenerate ones among them.
+"""Holds try_eigen against the oracle's first build, bit for bit: kept eigenvalues, their count, the sweeps, the mark, and the refusals, on designs of 3
+to 256 rows and 1 to 8 columns, degenerate ones among them.
 
 Usage: compare.py --seed SEED --count COUNT [--program COMMAND] [--show N]
 
@@ -174,7 +174,7 @@ def main():
     given = flags.parse_args()
     words = shlex.split(given.program) if given.program else kit_words() + [os.path.join(TOP, 'target', 'bin', 'try_eigen')]
     by_kind, by_refusal, by_rows = collections.Counter(), collections.Counter(), collections.Counter()
-    eigenvalues = sweeps = disagreements = rows = 0
+    eigenvalues = sweeps = stuck = disagreements = rows = 0
     for first in range(0, given.count, HUNDRED):
         designs = [design_of(given.seed, number) for number in range(first, min(first + HUNDRED, given.count))]
         data = b''.join(cases.design(columns, inverse) for _, columns, inverse in designs)
@@ -191,14 +191,15 @@ def main():
             if fields[1] == '0':
                 eigenvalues += int(fields[3])
                 sweeps += int(fields[4])
+                stuck += int(fields[5])
             if a != b:
                 disagreements += 1
                 if disagreements <= given.show:
                     print('design %d of seed %d, %s, n = %d, k = %d\n  the port   %s\n  the oracle %s'
                           % (first + at, given.seed, kind, n, len(columns), a[:300], b[:300]))
     listed = lambda counts: ', '.join('%s %d' % pair for pair in sorted(counts.items()))  # noqa: E731
-    print('by kind: %s\nby answer: %s\nby rows: %s; %.1f on average\nsweeps: %d'
-          % (listed(by_kind), listed(by_refusal), listed(by_rows), rows / given.count, sweeps))
+    print('by kind: %s\nby answer: %s\nby rows: %s; %.1f on average\nsweeps: %d; designs with a coupling left: %d'
+          % (listed(by_kind), listed(by_refusal), listed(by_rows), rows / given.count, sweeps, stuck))
     print('%d designs, %d eigenvalues, %d disagreements' % (given.count, eigenvalues, disagreements))
     return 1 if disagreements else 0
 

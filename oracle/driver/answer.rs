@@ -122,6 +122,14 @@ fn path(sheet: &Sheet, record: &Record) -> u32 {
     }
 }
 
+/// An integral has ended where its final error sum is at most this: the Rust's `0.5 * IMHOF_TOL`.
+const TOLERANCE: f64 = 5e-12;
+
+/// Whether no index was left with a coupling and the integral, where one was made, has ended. A NaN among the errors has not.
+fn settled(record: &Record) -> bool {
+    !record.stuck && record.error_sum() <= TOLERANCE
+}
+
 /// The Rust's answer to a sheet, and what the counting copy met on the way.
 /// An error is a difference between the two copies, which would be a fault of the oracle.
 pub fn answer(sheet: &Sheet) -> Result<(Line, Record), String> {
@@ -150,7 +158,7 @@ pub fn answer(sheet: &Sheet) -> Result<(Line, Record), String> {
             sweeps: record.sweeps,
             bisections: record.bisections,
             evaluations: record.evaluations,
-            settled: record.bisections < 2000,
+            settled: settled(&record),
         },
     };
     Ok((line, record))

@@ -20,9 +20,8 @@ fn counted_imhof(weights: &[f64]) -> Vec<u64> {
     let (low, high) = met.range.unwrap_or((0.0, 0.0));
     let finite = low.is_finite() && high.is_finite() && !met.estimate_not_finite;
     let ended = if met.weights.is_empty() { 0 } else if finite { 2 } else { 1 };
-    let error = if met.parts.is_empty() { 0.0 } else { met.parts.iter().map(|p| p.3).sum() };
     let mut words = vec![ended, bits(probability), met.bisections, met.evaluations, met.ties];
-    words.extend([low, high, met.integral.unwrap_or(0.0), error].map(bits));
+    words.extend([low, high, met.integral.unwrap_or(0.0), met.error_sum()].map(bits));
     words
 }
 

@@ -40,10 +40,19 @@ pub struct Record {
     /// Its mean and variance.
     pub law: Option<(f64, f64)>,
     pub sweeps: u64,
+    /// Whether an index still had a coupling left after its 60 sweeps.
+    pub stuck: bool,
     pub bisections: u64,
     /// Bisections at which another part had the greatest error too.
     pub ties: u64,
     pub evaluations: u64,
+}
+
+impl Record {
+    /// The sum of the parts' errors at the end, first to last; 0 where no integral was made.
+    pub fn error_sum(&self) -> f64 {
+        self.parts.iter().fold(0.0, |sum, part| sum + part.3)
+    }
 }
 
 thread_local! {
@@ -91,6 +100,11 @@ pub fn tridiagonal(diagonal: &[f64], couplings: &[f64]) {
 
 pub fn sweep() {
     note(|r| r.sweeps += 1);
+}
+
+/// An index is left with a coupling: its block is looked at after its 60th sweep, and is not the index alone.
+pub fn stuck() {
+    note(|r| r.stuck = true);
 }
 
 pub fn delivered(numbers: &[f64]) {

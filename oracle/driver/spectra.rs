@@ -10,7 +10,8 @@ fn finite(numbers: &[f64]) -> bool {
     numbers.iter().all(|x| x.is_finite())
 }
 
-/// The line behind the index: refusal and place, or the count, the sweeps and the eigenvalues.
+/// The line behind the index: refusal and place, or the count, the sweeps, 1 where an index was left with a coupling
+/// and else 0, and the eigenvalues.
 fn line(columns: &[&[f64]], given: Option<Vec<Vec<f64>>>) -> Result<String, String> {
     record::take();
     let inverse = match given {
@@ -36,7 +37,7 @@ fn line(columns: &[&[f64]], given: Option<Vec<Vec<f64>>>) -> Result<String, Stri
         return Ok("13 3".into());
     }
     let patterns: String = kept.iter().map(|&x| format!(" {:016x}", bits(x))).collect();
-    Ok(format!("0 0 {} {}{}", kept.len(), record.sweeps, patterns))
+    Ok(format!("0 0 {} {} {}{}", kept.len(), record.sweeps, u8::from(record.stuck), patterns))
 }
 
 /// Answers each design of `input`. The error says which could not be.

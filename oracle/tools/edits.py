@@ -47,6 +47,8 @@ COUNTED = [
              "    crate::record::tridiagonal(&d, &e);"),
     (DWTEST, "            let mut g = (d[l + 1] - d[l]) / (2.0 * e[l]);",
              "            crate::record::sweep(); let mut g = (d[l + 1] - d[l]) / (2.0 * e[l]);"),
+    (DWTEST, "            if iter > 60 {",
+             "            if iter > 60 { crate::record::stuck();"),
     (DWTEST, "    let w: Vec<f64> = weights.iter().copied().filter(|&v| v != 0.0).collect();",
              "    let w: Vec<f64> = weights.iter().copied().filter(|&v| v != 0.0).collect(); crate::record::weights(&w);"),
     (DWTEST, "    let g = |s: f64| {",

@@ -8,7 +8,7 @@ import math
 import random
 
 import sheetfile
-from sheetfile import Entry, bits
+from sheetfile import EXACT, Entry, bits
 
 MOST_ROWS, MOST_COLUMNS = 257, 9
 POWERS = 500
@@ -332,8 +332,26 @@ def positions(chance, index):
     return with_positions(chance, mixed(chance, index))
 
 
+def limits(chance, index):
+    """4 to 10 rows, columns of 0, 1, -1 and one of 2^-490 to 2^-537, most exact: of the accepted about one in 700 has an index out of its 60 sweeps"""
+    n, k = chance.size((4, 10))
+    tiny = math.ldexp(1.0, -chance.between(490, 537))
+    columns = [[0.0] * n for _ in range(k)]
+    for column in columns if n else []:
+        for _ in range(chance.between(1, 3)):
+            column[chance.below(n)] = chance.one_of([1.0, -1.0])
+        for _ in range(chance.between(1, 2)):
+            column[chance.below(n)] = tiny
+    width = chance.between(1, 2)
+    residuals = [float(chance.between(-width, width)) for _ in range(n)]
+    alternative, choice = chance.codes()
+    if chance.choice is None and chance.below(4):
+        choice = EXACT
+    return Entry.of_floats(residuals, columns, alternative, choice)
+
+
 # What mixed has for a seed must stay, so it goes through SHEETS alone.
-KINDS = dict(SHEETS, mixed=mixed, positions=positions)
+KINDS = dict(SHEETS, mixed=mixed, positions=positions, limits=limits)
 
 
 def entries(kind, chance, count):

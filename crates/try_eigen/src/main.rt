@@ -2,7 +2,8 @@
 // oracle; compare.py compares other designs the same way.
 // A design is 3 words of 8 bytes, the least byte first: n, k, and 1 where the inverse is given, 0 where it is worked out from the columns; then the
 // patterns of 64 numbers, the inverse row by row in its first k rows and columns, and of the columns' k n numbers. The line: index, refusal
-// and place; where there is none, how many eigenvalues are kept, the sweeps, and the eigenvalues' patterns. The room is not cleared between designs.
+// and place; where there is none, how many eigenvalues are kept, the sweeps, 1 where an index of the QL step still had a coupling left after its
+// turn and else 0, and the eigenvalues' patterns. The room is not cleared between designs.
 mod print;
 
 use design::Pivots;

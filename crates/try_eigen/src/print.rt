@@ -8,6 +8,10 @@ fn print_word(n: u64) {
     io::print_decimal(STDOUT_FILENO, n);
 }
 
+fn mark(b: bool) -> u64 {
+    if b { 1 } else { 0 }
+}
+
 fn print_pattern(x: f64) {
     io::write_all(STDOUT_FILENO, b" ");
     io::print_hex(STDOUT_FILENO, bits_of(x), 16);
@@ -26,6 +30,7 @@ pub fn print_kept(i: usize, numbers: Numbers, kept: &[f64]) {
     io::write_all(STDOUT_FILENO, b" 0 0");
     print_word(numbers.count as u64);
     print_word(work.sweeps as u64);
+    print_word(mark(numbers.stuck));
     for t in 0..kept.len() {
         if t < numbers.count {
             print_pattern(kept[t]);
