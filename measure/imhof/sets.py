@@ -138,14 +138,22 @@ def drawn(seed, count):
         yield (family.__name__,) + family(d)
 
 
-def tied(seed, count):
-    """`count` sets with a tie in the greatest error, by ties.rs over the port's sources, compiled by the machine's own rustc."""
+def built(name, *flags):
+    """The program NAME.rs of this folder over the port's sources, all compiled by the machine's own rustc with these flags."""
     rustc = os.environ.get("RUSTC", "rustc")
+    if shutil.which(rustc) is None:
+        raise Failed("%s is not on the PATH" % rustc)
     port = os.path.join(OUT, "port")
-    run([sys.executable, os.path.join(ROOT, "measure", "elementary", "port.py"), "imhof", port, rustc])
-    finder = os.path.join(OUT, "ties")
-    run([rustc, "--edition", "2021", "-O", "-L", port, "--extern", "imhof", "-o", finder, os.path.join(ROOT, "measure", "imhof", "ties.rs")])
-    lines = run([finder, str(count), str(seed)], stdout=subprocess.PIPE, text=True).stdout.split("\n")
+    run([sys.executable, os.path.join(ROOT, "measure", "elementary", "port.py"), "imhof", port, rustc, *flags])
+    program = os.path.join(OUT, name)
+    externs = ["-L", port, "--extern", "imhof", "--extern", "floats"]
+    run([rustc, "--edition", "2021", "-O", *flags, *externs, "-o", program, os.path.join(ROOT, "measure", "imhof", name + ".rs")])
+    return program
+
+
+def tied(seed, count):
+    """`count` sets with a tie in the greatest error, by ties.rs."""
+    lines = run([built("ties"), str(count), str(seed)], stdout=subprocess.PIPE, text=True).stdout.split("\n")
     return [("ties", [of_bits(int(word, 16)) for word in line.split()], 0.0) for line in lines if line]
 
 
