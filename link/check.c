@@ -73,8 +73,8 @@ static void answered(const char *name, size_t n, size_t k, uint32_t alternative,
     check_rooms(name, n, used);
 }
 
-static void accepted(const char *name, size_t n, size_t k, uint32_t alternative, uint32_t choice, uint64_t statistic, uint64_t p, uint64_t path, uint64_t kept, uint64_t sweeps, uint64_t bisections, uint64_t evaluations) {
-    const uint64_t words[DWEXPORT_WORDS] = {0, 0, statistic, p, path, 0, kept, sweeps, bisections, evaluations, 1};
+static void accepted(const char *name, size_t n, size_t k, uint32_t alternative, uint32_t choice, uint64_t statistic, uint64_t p, uint64_t path, uint64_t kept, uint64_t sweeps, uint64_t bisections, uint64_t evaluations, uint64_t settled) {
+    const uint64_t words[DWEXPORT_WORDS] = {0, 0, statistic, p, path, 0, kept, sweeps, bisections, evaluations, settled};
     answered(name, n, k, alternative, choice, path == 2, words);
 }
 
@@ -97,15 +97,15 @@ static void set(double a, double b, double c, double d) {
 
 static void by_hand(void) {
     set(1, -1, 1, -1);
-    accepted("P1: 1, -1", 2, 1, DWEXPORT_GREATER, DWEXPORT_DEFAULT, TWO, ONE, 1, 0, 0, 0, 0);
-    accepted("P2: 1, -1, 1, -1, less, normal", 4, 1, DWEXPORT_LESS, DWEXPORT_NORMAL, 0x4008000000000000u, ONE, 4, 0, 0, 0, 0);
+    accepted("P1: 1, -1", 2, 1, DWEXPORT_GREATER, DWEXPORT_DEFAULT, TWO, ONE, 1, 0, 0, 0, 0, 1);
+    accepted("P2: 1, -1, 1, -1, less, normal", 4, 1, DWEXPORT_LESS, DWEXPORT_NORMAL, 0x4008000000000000u, ONE, 4, 0, 0, 0, 0, 1);
     set(1, 1, -1, -1);
-    accepted("P3: 1, 1, -1, -1, two-sided, normal", 4, 1, DWEXPORT_TWO_SIDED, DWEXPORT_NORMAL, ONE, ONE, 4, 0, 0, 0, 0);
+    accepted("P3: 1, 1, -1, -1, two-sided, normal", 4, 1, DWEXPORT_TWO_SIDED, DWEXPORT_NORMAL, ONE, ONE, 4, 0, 0, 0, 0, 1);
     set(1, 1, 0, 0);
-    accepted("P4: 1, 1, 0, exact", 3, 1, DWEXPORT_GREATER, DWEXPORT_EXACT, HALF, 0, 2, 2, 5, 0, 0);
-    accepted("P4, less", 3, 1, DWEXPORT_LESS, DWEXPORT_EXACT, HALF, ONE, 2, 2, 5, 0, 0);
+    accepted("P4: 1, 1, 0, exact", 3, 1, DWEXPORT_GREATER, DWEXPORT_EXACT, HALF, 0, 2, 2, 5, 0, 0, 1);
+    accepted("P4, less", 3, 1, DWEXPORT_LESS, DWEXPORT_EXACT, HALF, ONE, 2, 2, 5, 0, 0, 1);
     set(0, 1, 0, 0);
-    accepted("P5: 0, 1, 0, exact", 3, 1, DWEXPORT_GREATER, DWEXPORT_EXACT, TWO, HALF, 2, 2, 5, 0, 15);
+    accepted("P5: 0, 1, 0, exact", 3, 1, DWEXPORT_GREATER, DWEXPORT_EXACT, TWO, HALF, 2, 2, 5, 0, 15, 1);
     refused("P6: no column", 2, 0, DWEXPORT_DEFAULT, 1, 0);
     set(1, -1, 0, 0);
     refused("P7: one row", 1, 1, DWEXPORT_DEFAULT, 6, 0);
@@ -136,22 +136,27 @@ static void by_hand(void) {
 
 static void by_the_oracle(void) {
     set(1, -1, 0, 0);
-    accepted("1, -1, 0, exact", 3, 1, DWEXPORT_GREATER, DWEXPORT_EXACT, 0x4004000000000000u, 0x3fe5555555554755u, 2, 2, 5, 16, 495);
-    accepted("1, -1, 0, exact, less", 3, 1, DWEXPORT_LESS, DWEXPORT_EXACT, 0x4004000000000000u, 0x3fd5555555557156u, 2, 2, 5, 16, 495);
-    accepted("1, -1, 0, exact, two-sided", 3, 1, DWEXPORT_TWO_SIDED, DWEXPORT_EXACT, 0x4004000000000000u, 0x3fe5555555557156u, 2, 2, 5, 16, 495);
+    accepted("1, -1, 0, exact", 3, 1, DWEXPORT_GREATER, DWEXPORT_EXACT, 0x4004000000000000u, 0x3fe5555555554755u, 2, 2, 5, 16, 495, 1);
+    accepted("1, -1, 0, exact, less", 3, 1, DWEXPORT_LESS, DWEXPORT_EXACT, 0x4004000000000000u, 0x3fd5555555557156u, 2, 2, 5, 16, 495, 1);
+    accepted("1, -1, 0, exact, two-sided", 3, 1, DWEXPORT_TWO_SIDED, DWEXPORT_EXACT, 0x4004000000000000u, 0x3fe5555555557156u, 2, 2, 5, 16, 495, 1);
     cubes(20);
     intercept_and_position(20, 2);
-    accepted("20 rows, normal", 20, 2, DWEXPORT_GREATER, DWEXPORT_NORMAL, 0x3ffcaeecd63bf23eu, 0x3fcce7f13d3b3f98u, 3, 0, 0, 0, 0);
-    accepted("20 rows, normal, less", 20, 2, DWEXPORT_LESS, DWEXPORT_NORMAL, 0x3ffcaeecd63bf23eu, 0x3fe8c603b0b1301au, 3, 0, 0, 0, 0);
-    accepted("20 rows", 20, 2, DWEXPORT_TWO_SIDED, DWEXPORT_DEFAULT, 0x3ffcaeecd63bf23eu, 0x3fdd9bd745fb9212u, 2, 18, 42, 13, 405);
+    accepted("20 rows, normal", 20, 2, DWEXPORT_GREATER, DWEXPORT_NORMAL, 0x3ffcaeecd63bf23eu, 0x3fcce7f13d3b3f98u, 3, 0, 0, 0, 0, 1);
+    accepted("20 rows, normal, less", 20, 2, DWEXPORT_LESS, DWEXPORT_NORMAL, 0x3ffcaeecd63bf23eu, 0x3fe8c603b0b1301au, 3, 0, 0, 0, 0, 1);
+    accepted("20 rows", 20, 2, DWEXPORT_TWO_SIDED, DWEXPORT_DEFAULT, 0x3ffcaeecd63bf23eu, 0x3fdd9bd745fb9212u, 2, 18, 42, 13, 405, 1);
     cubes(100);
     intercept_and_position(99, 1);
-    accepted("99 rows, default", 99, 1, DWEXPORT_GREATER, DWEXPORT_DEFAULT, 0x4000bedf1d04838cu, 0x3fe5bb1ae801e756u, 2, 98, 208, 12, 375);
+    accepted("99 rows, default", 99, 1, DWEXPORT_GREATER, DWEXPORT_DEFAULT, 0x4000bedf1d04838cu, 0x3fe5bb1ae801e756u, 2, 98, 208, 12, 375, 1);
     intercept_and_position(100, 1);
-    accepted("100 rows, default", 100, 1, DWEXPORT_GREATER, DWEXPORT_DEFAULT, 0x4000c4ceb0d36ae4u, 0x3fe5f60706796d0eu, 3, 0, 0, 0, 0);
+    accepted("100 rows, default", 100, 1, DWEXPORT_GREATER, DWEXPORT_DEFAULT, 0x4000c4ceb0d36ae4u, 0x3fe5f60706796d0eu, 3, 0, 0, 0, 0, 1);
     cubes(256);
     intercept_and_position(256, 2);
-    accepted("256 rows, exact, two-sided", 256, 2, DWEXPORT_TWO_SIDED, DWEXPORT_EXACT, 0x40012768fbb1d799u, 0x3fd18cb0b5d9fad0u, 2, 254, 523, 13, 405);
+    accepted("256 rows, exact, two-sided", 256, 2, DWEXPORT_TWO_SIDED, DWEXPORT_EXACT, 0x40012768fbb1d799u, 0x3fd18cb0b5d9fad0u, 2, 254, 523, 13, 405, 1);
+    set(1, -1, 2, 0);
+    residuals[4] = 1, residuals[5] = -1;
+    fill(columns, 0, 12, 0.0);
+    columns[1] = 0x1p-519, columns[5] = 1.0, columns[8] = columns[9] = 1.0;
+    accepted("2^-519 in a column: four indexes out of sweeps", 6, 2, DWEXPORT_GREATER, DWEXPORT_EXACT, 0x4006000000000000u, 0x3feeb6e524af1818u, 2, 4, 242, 15, 465, 0);
 }
 
 /* Lengths that do not fit: refusals of the test for the columns and the rooms, return codes for the rest. */

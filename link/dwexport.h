@@ -44,7 +44,8 @@ enum {
     DWEXPORT_SWEEPS = 7,      /* of the QL step */
     DWEXPORT_BISECTIONS = 8,  /* of the integral */
     DWEXPORT_EVALUATIONS = 9, /* of the integrand */
-    DWEXPORT_SETTLED = 10,    /* 1: accepted with fewer than 2,000 bisections */
+    DWEXPORT_SETTLED = 10,    /* 1: accepted, no index of the QL step had a coupling left after its 60 sweeps, and where an integral was
+                                 needed the final sum of its errors is at most 5e-12 */
     DWEXPORT_WORDS = 11
 };
 
