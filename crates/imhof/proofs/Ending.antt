@@ -2,14 +2,13 @@
 -- a small final sum. And what an estimate says of its sum: that of the last stage where the weights have both signs, else yes. Assumes nothing.
 use mathlib.Core.Path.{_≡_, refl, sym, ap, _∙_, subst}
 use mathlib.Core.Bool.{Bool, true, false, _&&_, cond}
-use mathlib.Core.List.{List, [], _∷_}
-use Prim.Native.Nat.{ℕ, zero, suc, _+_, _<_}
+use mathlib.Core.List.{List}
+use Prim.Native.Nat.{ℕ, zero, suc, _<_}
 use native.Mathlib.Numerals.{add-one}
 use native.Mathlib.Omega.{arith}
 use lib.Ieee.{Float, le}
 use lib.Ieee.Scale.{finite}
 use Rattle.floats.specs.Sums.{sumRun}
-use Rattle.floats.specs.Count.{noWork}
 use Rattle.floats.specs.declared.tally.Tally.{Tally}
 use Rattle.imhof.specs.declared.Part.{Part}
 use Rattle.imhof.specs.declared.Standing.{Standing}
@@ -18,13 +17,12 @@ use Rattle.imhof.specs.declared.Integral.{Integral}
 use Rattle.imhof.specs.declared.Quadrature.{Quadrature}
 use Rattle.imhof.specs.declared.Quadrature.the-variants.{Sum, Broken}
 use Rattle.imhof.specs.declared.Estimate.{Estimate}
-use Rattle.imhof.specs.declared.Exact.{Exact}
-use Rattle.imhof.specs.declared.Exact.the-variants.{NoWeight, NotFinite, Value}
+use Rattle.imhof.specs.declared.Exact.the-variants.{Value}
 use Rattle.imhof.specs.Weights.{weightsOf, Signs, none, above, below, mixed, signsOf}
 use Rattle.imhof.specs.Range.{lowEnd, highEnd}
 use Rattle.imhof.specs.Integrand.{integrandOf}
 use Rattle.imhof.specs.Rule.{gk15Of}
-use Rattle.imhof.specs.Parts.{errorsOf, worstOf, finitePart, lookedAt, Stage, stage, tolerance, oneRule, nextStage, stageAfter}
+use Rattle.imhof.specs.Parts.{errorsOf, finitePart, lookedAt, Stage, stage, tolerance, nextStage, stageAfter}
 use Rattle.imhof.specs.Imhof.{smallSum, quadratureOf, lastStage, lastStageBy, exactBy, outcomeBy, imhofOf}
 use Rattle.imhof.proofs.StageLaws.{finiteHalves, split, first-open, first-broken, stage-next}
 use Rattle.imhof.proofs.Probability.{no-value, refused-value, same-value}

@@ -4,7 +4,6 @@
 use mathlib.Core.Path.{_≡_, refl, sym, ap, _∙_, subst}
 use mathlib.Core.Bool.{Bool, true, false, not, _&&_, _||_, cond, true≢false}
 use Prim.Native.Nat.{ℕ, _*_, _≤_, _<_}
-use native.Mathlib.Omega.{arith}
 use mathlib.Core.List.{List, [], _∷_}
 use lib.Dec.{T, ltb, leb}
 use lib.ListN.{length}
@@ -44,7 +43,7 @@ use Rattle.eigen.specs.declared.Numbers.{Numbers}
 use Rattle.eigen.specs.declared.Spectrum.{Spectrum}
 use Rattle.eigen.specs.declared.Spectrum.the-variants.{MatrixNotFinite, NumberNotFinite, Kept}
 use Rattle.eigen.proofs.SpectrumLaws.{kept-told}
-use Rattle.imhof.specs.Weights.{weightsOf, Signs, none, above, below, mixed, signsOf}
+use Rattle.imhof.specs.Weights.{Signs, none, above, below, mixed, signsOf}
 use Rattle.imhof.specs.Parts.{tolerance}
 use Rattle.imhof.specs.Imhof.{imhofOf}
 use Rattle.imhof.specs.declared.Estimate.{Estimate}

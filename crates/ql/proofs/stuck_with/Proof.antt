@@ -1,9 +1,6 @@
 -- The mark so far decides, else the block that begins at l. Assumes nothing.
-use mathlib.Core.Path.{_≡_, refl}
-use mathlib.Core.Bool.{Bool, true, false, not, _||_}
-use lib.Dec.{eqb}
+use mathlib.Core.Path.{refl}
 use borrow.Author.Needs.{needs}
-use borrow.Author.Tests.{eq-eqb, ne-eqb}
 use Rattle.ql.proofs.stuck_with.Statement.{statement}
 use Rattle.ql.proofs.stuck_with.Tie as tie
 
