@@ -143,10 +143,10 @@ static void by_the_oracle(void) {
     intercept_and_position(20, 2);
     accepted("20 rows, normal", 20, 2, DWEXPORT_GREATER, DWEXPORT_NORMAL, 0x3ffcaeecd63bf23eu, 0x3fcce7f13d3b3f98u, 3, 0, 0, 0, 0, 1);
     accepted("20 rows, normal, less", 20, 2, DWEXPORT_LESS, DWEXPORT_NORMAL, 0x3ffcaeecd63bf23eu, 0x3fe8c603b0b1301au, 3, 0, 0, 0, 0, 1);
-    accepted("20 rows", 20, 2, DWEXPORT_TWO_SIDED, DWEXPORT_DEFAULT, 0x3ffcaeecd63bf23eu, 0x3fdd9bd745fb9212u, 2, 18, 42, 13, 405, 1);
+    accepted("20 rows", 20, 2, DWEXPORT_TWO_SIDED, DWEXPORT_DEFAULT, 0x3ffcaeecd63bf23eu, 0x3fdd9bd745fb9216u, 2, 18, 42, 13, 405, 1);
     cubes(100);
     intercept_and_position(99, 1);
-    accepted("99 rows, default", 99, 1, DWEXPORT_GREATER, DWEXPORT_DEFAULT, 0x4000bedf1d04838cu, 0x3fe5bb1ae801e756u, 2, 98, 208, 12, 375, 1);
+    accepted("99 rows, default", 99, 1, DWEXPORT_GREATER, DWEXPORT_DEFAULT, 0x4000bedf1d04838cu, 0x3fe5bb1ae801e75au, 2, 98, 208, 12, 375, 1);
     intercept_and_position(100, 1);
     accepted("100 rows, default", 100, 1, DWEXPORT_GREATER, DWEXPORT_DEFAULT, 0x4000c4ceb0d36ae4u, 0x3fe5f60706796d0eu, 3, 0, 0, 0, 0, 1);
     cubes(256);

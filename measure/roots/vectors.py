@@ -13,6 +13,7 @@ import os
 import random
 import struct
 import sys
+from math import gcd, isqrt
 
 try:
     from mpmath import floor, ldexp, mp, mpf, sqrt
@@ -91,6 +92,67 @@ def roots(draw):
     return out
 
 
+def tie(draw, gap):
+    """Two whole numbers whose hypot is g (s^2 + t^2), an odd number of 54 digits and so the middle of two neighbours; t is less than `gap` below s. It goes
+    down where g is 1, and up where g is 3."""
+    while True:
+        s, g = draw.randrange(2**25, 2**27), draw.choice((1, 3))
+        t = s - draw.randrange(1, gap)
+        x, y, middle = g * 2 * s * t, g * (s * s - t * t), g * (s * s + t * t)
+        if middle % 2 == 1 and middle >> 53 == 1 and t > 0 and y >> 53 == 0:
+            return x, y
+
+
+def beside_tie(draw, d):
+    """Whole numbers m and w with 4 m^2 + 4 w^2 = (2 c + 1)^2 - d, for a c of 53 digits and a d of 1 or -3: none come nearer to a tie. A tie would go to
+    the other neighbour. (2 c + 1)^2 - (2 m)^2 = (2 w)^2 + d is u v, where u and v are a^2 + d b^2 and e^2 + d f^2, and a f + b e = 1."""
+    while True:
+        a, b = draw.getrandbits(27) | 1, draw.getrandbits(27) | 2
+        if gcd(a, b) > 1:
+            continue
+        k, f = draw.randrange(-3, 4), pow(a, -1, b)
+        e, f = (1 - a * f) // b + k * a, f - k * b
+        u, v, w = a * a + d * b * b, e * e + d * f * f, abs(a * e - d * b * f) // 2
+        c, m = (u + v) // 4, abs(v - u) // 4
+        if 4 * m * m + 4 * w * w == (2 * c + 1) ** 2 - d and c >> 52 == 1 and c % 2 == (d == 1) and (m | w) >> 53 == 0:
+            return m, w
+
+
+def digits_below(draw, above):
+    """A hair above or below a tie, by digits that lie below the last of the sum: (2 m)^2 + (w / 2^25)^2 less (2 m + 1)^2 is less than 1 in size. A tie would
+    go to the other neighbour."""
+    while True:
+        m = (draw.getrandbits(51) | 1 << 51) * 2 + 1 - above
+        w = isqrt((4 * m + 1) << 50) + above
+        if 0 < abs(w * w - ((4 * m + 1) << 50)) < 1 << 50:
+            return m << 26, w
+
+
+def beside_power(draw, digits):
+    """Two pairs of whole numbers of that many digits at most, whose hypots are the nearest to 2^digits - 1/2 that an x allows, from below and from above."""
+    x = draw.getrandbits(digits - 1)
+    y = isqrt((2 ** (digits + 1) - 1) ** 2 // 4 - x * x)
+    return [(x, y), (x, y + 1)]
+
+
+def hard_pairs(draw):
+    """Pairs that are rounded right only by looking at every digit."""
+    def placed(pair, low, high):
+        scale = draw.randrange(low, high)
+        return tuple(rounded(ldexp(mpf(n), scale)) | draw.getrandbits(1) << 63 for n in pair)
+
+    # ties: any; of two numbers some 2^26 apart; of a subnormal number; (2^54 - 1) 2^970, from where on a value is infinity
+    out = [placed(tie(draw, 2**26), -1074, 970) for _ in range(8)] + [placed(tie(draw, 4), -1074, 970) for _ in range(4)]
+    out += [placed(tie(draw, 2**26), -1074, -1073) for _ in range(3)] + [placed((16956756496728720, 6081690782099583), 970, 971)]
+    # a hair above or below a tie
+    out += [placed(beside_tie(draw, d), -1074, 970) for d in (1, -3) for _ in range(11)]
+    out += [placed(digits_below(draw, above), -1074, 940) for above in (0, 1) for _ in range(6)]
+    # both subnormal, beside the least normal number; beside any power of two; beside infinity
+    for digits, low, high in ((52, -1074, -1073), (53, -1074, 970)) + 3 * ((53, 971, 972),):
+        out += [placed(pair, low, high) for pair in beside_power(draw, digits)]
+    return out
+
+
 def pairs(draw):
     """The pairs whose hypot is asked."""
     edges = [0, SIGN, bits(1.0), bits(-2.0), INF, SIGN + INF, NAN, 1, SIGN + LARGEST]
@@ -107,8 +169,6 @@ def pairs(draw):
     for low, high in ((499, 501), (-501, -499)):
         out += [(number(low, high), number(low, high)) for _ in range(10)]
     out += [(number(499, 501), number(-501, -499)) for _ in range(5)]
-    # where the steps change: a sum of squares near 2^-900, or near 2^1024
-    out += [(number(-452, -448), number(-452, -448)) for _ in range(15)] + [(number(510, 513), number(510, 513)) for _ in range(15)]
     # next to the end of the range
     out += [(number(1022, 1023), number(1015, 1023)) for _ in range(15)] + [(LARGEST, number(900, 1000)), (LARGEST, LARGEST - 1)]
     # subnormal numbers of every length
@@ -118,12 +178,7 @@ def pairs(draw):
         e = draw.randrange(-1022, 1020)
         out += [(number(e, e + 2), number(e, e + 2)), (number(e, e + 1), number(max(e - 30, -1022), e + 1))]
     out += [(draw.randrange(INF), draw.randrange(INF)) for _ in range(10)]
-    # close to the middle of two neighbours: y is the root of r^2 - x^2, for a middle r
-    for _ in range(30):
-        r = 1 + mpf(2 * draw.getrandbits(52) + 1) / 2**53
-        x = rounded(r * draw.randrange(1, 100) / 101)
-        out.append((x, rounded(sqrt(r * r - value(x) ** 2))))
-    return out
+    return out + hard_pairs(draw)
 
 
 def words(draw):

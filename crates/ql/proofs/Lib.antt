@@ -1,2 +1,3 @@
 pub mod SweepLaws
 pub mod StuckLaws
+pub mod SizeLaws

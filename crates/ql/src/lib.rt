@@ -4,13 +4,13 @@
 ghost use mathlib.Core.Path.{_≡_};
 ghost use Prim.Native.Nat.{_+_, _*_, _^_, _≤_, _<_};
 ghost use lib.ListN.{length};
-ghost use lib.Ieee.{le};
+ghost use lib.Ieee.{lt, le, neg};
 ghost use Rattle.floats.specs.Words.{_⊕_, _⊗_, float};
 ghost use Rattle.floats.specs.Signs.{absOf};
 ghost use Rattle.ql.specs.Rotation.{rotated};
 ghost use Rattle.ql.specs.Sweep.{blockEnd, shiftOf, sweepOf};
 ghost use Rattle.ql.specs.Ql.{settled, qlOf, couplingLeft, stuckOf};
-ghost use mathlib.Core.Bool.{_||_};
+ghost use mathlib.Core.Bool.{_||_, cond};
 use floats::tally::Tally;
 
 // Where a sweep stands: the sine and cosine of its last rotation, the entry to rotate and what the
@@ -30,11 +30,18 @@ struct Rotated {
     flat: bool,
 }
 
+// |x| but for the sign of zero, which no comparison sees: three instructions where `abs` takes seven.
+fn size(x: f64) -> f64
+    ensures { λ r. ⌜ r ≡ cond (lt x (neg x)) (neg x) x ⌝ }
+{
+    if x < -x { -x } else { x }
+}
+
 // Whether the coupling `e` is negligible beside diagonal entries of the sizes `above` and `below`.
 fn is_negligible(e: f64, above: f64, below: f64) -> bool
     ensures { λ r. ⌜ r ≡ le (absOf e) (float 0x3cb0000000000000 ⊗ (above ⊕ below)) ⌝ }
 {
-    floats::signs::abs(e) <= 2.220446049250313e-16 * (above + below)
+    size(e) <= 2.220446049250313e-16 * (above + below)
 }
 
 // The last index of the block that begins at `l`: the first from `l` on whose coupling is
@@ -45,10 +52,10 @@ fn block_end(d: &[f64], e: &[f64], n: usize, l: usize) -> usize
     ensures { λ r. ⌜ r ≡ blockEnd n (now (d .entry)) (now (e .entry)) l ⌝ }
 {
     let most = n - 1 - l;
-    let mut above = floats::signs::abs(d[l]);
+    let mut above = size(d[l]);
     for t in 0..most {
         let m = l + t;
-        let below = floats::signs::abs(d[m + 1]);
+        let below = size(d[m + 1]);
         if is_negligible(e[m], above, below) {
             return m;
         }

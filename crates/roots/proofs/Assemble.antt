@@ -1,95 +1,62 @@
--- The bits of a rounded root, from its 54 leading digits: one more than the format holds, and it says which way to round, since no root of a binary64 is a tie. Assumes nothing.
-use mathlib.Core.Path.{_≡_, refl, sym, ap, _∙_}
+-- The bits of a rounded root, from the whole number c nearest to √N, where N has 105 or 106 digits: c steps of 2 ^ K units are nearest to √(N * 4 ^ K), and no such root is a tie. Assumes nothing.
+use mathlib.Core.Path.{_≡_, refl, ap, _∙_}
 use mathlib.Core.Logic.{_⊎_, inl, inr}
-use Prim.Native.Nat.{ℕ, zero, suc, _+_, _-_, _*_, _/_, _%_, _^_, _≤_, _<_, compare, Ordering, Ordering·lt, Ordering·eq, Ordering·gt}
-use native.Mathlib.Nat.{le-trans, le-of-lt, lt-of-lt-of-le, lt-of-mul-lt-mul-right, eq-of-mul-eq-mul-right, mul-le-mul-left, mul-le-mul-right, not-le-of-lt, mul-lt-mul-of-pos-right, mul-pos, pow-succ'}
+use Prim.Native.Nat.{ℕ, zero, suc, _+_, _-_, _*_, _/_, _%_, _^_, _≤_, _<_, compare, min, zero-le, Ordering, Ordering·lt, Ordering·gt}
+use native.Mathlib.Nat.{lt-trans, mul-le-mul-left, mul-le-mul-right, mul-lt-mul-of-pos-right, min-eq-left}
 use native.Mathlib.Omega.{arith}
-use lib.Dec.{lit<, lit≤}
-use lib.Pow.{pow-add, pow-pos}
-use lib.Ieee.{binary64, nearest, ofBits}
-use Rattle.roots.specs.Root.{IsRoot, NearRoot, RootBits}
-use Rattle.roots.proofs.Squares.{side, sq-le, root-ge, root-lt}
-use Rattle.roots.proofs.Division.{Doubled, doubled}
-use Rattle.roots.proofs.Ladder.{unitsOf, place}
-use Rattle.roots.proofs.Rounding.{Ordered, ordered, middle, nearest-far, root-rung}
+use lib.Pow.{pow-add}
+use lib.Ieee.{nearest}
+use Rattle.roots.specs.Root.{NearRoot, RootBits}
+use Rattle.roots.specs.Patterns.{top}
+use Rattle.roots.proofs.Squares.{side, four-power, four-pos, square-of, lt-of-sq}
+use Rattle.roots.proofs.Rounding.{decided, compare-scaled}
+use Rattle.roots.proofs.Steps.{two-steps}
 
-parity : (q : ℕ) → (q ≡ 2 * (q / 2)) ⊎ (q ≡ 2 * (q / 2) + 1)
-parity q = elim (side (q % 2) 1) [ inl h ↦ inl (omega arith) | inr h ↦ inr (omega arith) ]
+few : (N c : ℕ) → N < 2 ^ 53 * 2 ^ 53 → NearRoot N c → c ≤ 2 ^ 53
+few N zero h r = zero-le
+few N (suc b) h r = let l : b * b < N = omega (arith, r .low) in lt-of-sq (lt-trans l h)
 
--- ---- √D has the whole part q, and D is even: √(D * u²) lies between q / 2 and q / 2 + 1 times 2 * u, and on which side of their middle the last digit of q says
-module _ (D q u : ℕ) (even : D % 2 ≡ 0) (r : IsRoot D q) (pos : 0 < u) where
-  under : q / 2 * (2 * u) * (q / 2 * (2 * u)) ≤ D * (u * u)
-  under =
-      let h : 2 * (q / 2) * (2 * (q / 2)) ≤ D = le-trans (sq-le (omega arith)) (r .low) in
-      omega (arith, mul-le-mul-right (u * u) h)
+-- ---- c steps of 2 ^ K units, from below or from above
+module _ (N K : ℕ) (large : 2 ^ 104 ≤ N) (small : N < 2 ^ 106) (range : K ≤ 2044) where
+  -- b steps that the root lies on or above, and on which side of the next middle
+  from-below : (b : ℕ) (o : Ordering) → b * b ≤ N → 4 * N < (2 * b + 3) * (2 * b + 3) → compare (4 * N) ((2 * b + 1) * (2 * b + 1)) ≡ o → RootBits (N * 4 ^ K) (min (K * 2 ^ 52 + nearest b o) top)
+  from-below b o lo hi is =
+      let mid = (2 * b + 1) * 2 ^ K in
+      let a : 4 * (N * 4 ^ K) ≡ 4 * N * 4 ^ K = omega arith in
+      let e : compare (4 * (N * 4 ^ K)) (mid * mid) ≡ o = rw (a, square-of (2 * b + 1) K) (compare-scaled (4 * N) ((2 * b + 1) * (2 * b + 1)) (4 ^ K) (four-pos K)) ∙ is in
+      rw e at
+      (two-steps (N * 4 ^ K) b K
+      (rw (square-of b K) (mul-le-mul-right (4 ^ K) lo))
+      (rw (a, square-of (2 * b + 3) K) (mul-lt-mul-of-pos-right hi (four-pos K)))
+      (inr (rw (square-of (2 ^ 52) K) (mul-le-mul-right (4 ^ K) large)))
+      (lt-of-sq (omega (arith, lo))))
 
-  over : D * (u * u) < (q / 2 + 1) * (2 * u) * ((q / 2 + 1) * (2 * u))
-  over =
-      let h : D < 2 * (q / 2 + 1) * (2 * (q / 2 + 1)) = lt-of-lt-of-le (r .high) (sq-le (omega arith)) in
-      omega (arith, mul-lt-mul-of-pos-right h (mul-pos pos pos))
+  pub assembled : (c : ℕ) → NearRoot N c → RootBits (N * 4 ^ K) (K * 2 ^ 52 + c)
+  assembled c r = elim (side N (c * c)) [ inl h ↦ above c r h | inr h ↦ rw fits at (from-below c Ordering·lt h (omega (arith, r .high)) (decided (4 * N) ((2 * c + 1) * (2 * c + 1)) Ordering·lt (omega (arith, r .high)))) ]
+    where
+      fits : min (K * 2 ^ 52 + c) top ≡ K * 2 ^ 52 + c
+      fits = min-eq-left (omega (arith, few N c small r))
 
-  way : (o : Ordering) → let M = (2 * (q / 2) + 1) * (2 * (q / 2) + 1) in Ordered (D * (4 * (u * u))) (M * (4 * (u * u))) o → nearest (q / 2) o ≡ (q + 1) / 2
-  way Ordering·lt h = elim (parity q) [ inl e ↦ omega arith | inr e ↦ absurd (not-le-of-lt (lt-of-mul-lt-mul-right (4 * (u * u)) h) (rw (← e) (r .low))) ]
-  way Ordering·eq h =
-      let e : D ≡ (2 * (q / 2) + 1) * (2 * (q / 2) + 1) = eq-of-mul-eq-mul-right (4 * (u * u)) (mul-pos (lit< tt) (mul-pos pos pos)) D ((2 * (q / 2) + 1) * (2 * (q / 2) + 1)) h in
-      absurd (omega arith)
-  way Ordering·gt h = elim (parity q) [ inl e ↦ absurd (not-le-of-lt (lt-of-mul-lt-mul-right (4 * (u * u)) h) (rw (← e) (le-of-lt (r .high)))) | inr e ↦ omega arith ]
+      above : (c : ℕ) → NearRoot N c → N < c * c → RootBits (N * 4 ^ K) (K * 2 ^ 52 + c)
+      above zero r h = absurd (omega arith)
+      above (suc b) r h =
+          let e : min (K * 2 ^ 52 + suc b) top ≡ K * 2 ^ 52 + suc b = min-eq-left (omega (arith, few N (suc b) small r)) in
+          rw e at (from-below b Ordering·gt (omega (arith, r .low)) (omega arith) (decided (4 * N) ((2 * b + 1) * (2 * b + 1)) Ordering·gt (omega (arith, r .low))))
 
-  rounds : (mid : ℕ) → mid ≡ q / 2 * (2 * u) + (q / 2 + 1) * (2 * u) → nearest (q / 2) (compare (4 * (D * (u * u))) (mid * mid)) ≡ (q + 1) / 2
-  rounds mid e =
-      let a : 4 * (D * (u * u)) ≡ D * (4 * (u * u)) = omega arith in
-      let b : mid * mid ≡ (2 * (q / 2) + 1) * (2 * (q / 2) + 1) * (4 * (u * u)) = rw e (omega arith) in
-      rw (a, b) (way (compare (D * (4 * (u * u))) ((2 * (q / 2) + 1) * (2 * (q / 2) + 1) * (4 * (u * u)))) (ordered (D * (4 * (u * u))) ((2 * (q / 2) + 1) * (2 * (q / 2) + 1) * (4 * (u * u)))))
-
--- ---- m * 2 ^ s as a number of 54 digits, 2 ^ 54, and a square
-parts : (m s : ℕ) → 54 ≤ s → m * 2 ^ s ≡ m * (1 + s % 2) * 2 ^ 54 * (2 ^ (s / 2 - 27) * 2 ^ (s / 2 - 27))
+-- ---- m * 2 ^ s as a number of 53 or 54 digits, 2 ^ 52, and a square
+parts : (m s : ℕ) → 52 ≤ s → m * 2 ^ s ≡ m * (1 + s % 2) * 2 ^ 52 * 4 ^ (s / 2 - 26)
 parts m s h =
-    let g = s / 2 - 27 in
-    let e : s ≡ s % 2 + (54 + (g + g)) = omega arith in
-    ap (λ (x : ℕ). m * 2 ^ x) e ∙ rw (pow-add 2 (s % 2) (54 + (g + g)), pow-add 2 54 (g + g), pow-add 2 g g, small (s % 2) (omega arith)) (omega arith)
+    let g = s / 2 - 26 in
+    let e : s ≡ s % 2 + (52 + (g + g)) = omega arith in
+    ap (λ (x : ℕ). m * 2 ^ x) e ∙ rw (pow-add 2 (s % 2) (52 + (g + g)), pow-add 2 52 (g + g), pow-add 2 g g, four-power g, one-more (s % 2) (omega arith)) (omega arith)
   where
-    small : (r : ℕ) → r < 2 → 2 ^ r ≡ 1 + r
-    small zero l = refl
-    small (suc zero) l = refl
-    small (suc (suc r)) l = absurd (omega arith)
+    one-more : (r : ℕ) → r < 2 → 2 ^ r ≡ 1 + r
+    one-more zero l = refl
+    one-more (suc zero) l = refl
+    one-more (suc (suc r)) l = absurd (omega arith)
 
 pub wide : (m s : ℕ) → (m ≤ m * (1 + s % 2)) × (m * (1 + s % 2) ≤ 2 * m)
 wide m s = let h : s % 2 ≤ 1 = omega arith in omega (arith, mul-le-mul-left m h)
-
-q-below : (d q : ℕ) → d < 2 ^ 54 → IsRoot (d * 2 ^ 54) q → q < 2 ^ 54
-q-below d q h r = root-lt (2 ^ 54) r (mul-lt-mul-of-pos-right h (lit< tt))
-
--- ---- the bits: d has 53 or 54 digits, q is the 54 of its root, and 2 ^ g is the weight of the last
-module _ (d g q : ℕ) (from : 2 ^ 52 ≤ d) (below : d < 2 ^ 54) (r : IsRoot (d * 2 ^ 54) q) where
-  q-lt : q < 2 ^ 54
-  q-lt = q-below d q below r
-
-  q-from : 2 ^ 53 ≤ q
-  q-from = root-ge (2 ^ 53) r (le-trans (lit≤ {m = 2 ^ 53 * 2 ^ 53} {n = 2 ^ 52 * 2 ^ 54} tt) (mul-le-mul-right (2 ^ 54) from))
-
-  pub assembled : g ≤ 1533 → RootBits (d * 2 ^ 54 * (2 ^ g * 2 ^ g)) (suc g * 2 ^ 52 + (q + 1) / 2)
-  assembled G =
-      let D = d * 2 ^ 54 in
-      let p = q / 2 in
-      let u = 2 ^ g in
-      let b = suc g * 2 ^ 52 + p in
-      let n = D * (u * u) in
-      let even : D % 2 ≡ 0 = omega arith in
-      let next : suc b ≡ suc g * 2 ^ 52 + (p + 1) = omega arith in
-      let lo : unitsOf b ≡ p * (2 * u) = place p (suc g) (inr (omega (arith, q-from))) (omega (arith, q-lt)) ∙ rw (pow-succ' 2 g) in
-      let hi : unitsOf (suc b) ≡ (p + 1) * (2 * u) = ap unitsOf next ∙ place (p + 1) (suc g) (inr (omega (arith, q-from))) (omega (arith, q-lt)) ∙ rw (pow-succ' 2 g) in
-      let o = compare (4 * n) (middle b * middle b) in
-      let w : nearest p o ≡ (q + 1) / 2 = rounds D q u even r (pow-pos g) (middle b) (rw (lo, hi)) in
-      record {
-        value = sym (root-rung n b (omega (arith, q-lt)) (rw lo (under D q u even r (pow-pos g))) (rw hi (over D q u even r (pow-pos g))) ∙ ap (ofBits binary64) (nearest-far p (suc g * 2 ^ 52) o (omega arith) ∙ rw w));
-        finite = omega (arith, q-lt);
-      }
-
--- ---- the whole way from m * 2 ^ s
-pub joined : (m s q : ℕ) → 2 ^ 52 ≤ m → m < 2 ^ 53 → 54 ≤ s → s ≤ 3119 → IsRoot (m * (1 + s % 2) * 2 ^ 54) q → RootBits (m * 2 ^ s) ((s / 2 - 26) * 2 ^ 52 + (q + 1) / 2)
-joined m s q a b c e r =
-    let k : s / 2 - 26 ≡ suc (s / 2 - 27) = omega arith in
-    rw (parts m s c, k) (assembled (m * (1 + s % 2)) (s / 2 - 27) q (omega (arith, wide m s)) (omega (arith, wide m s)) r (omega arith))
 
 -- ---- the same where w has the digits below the leading one and, above them, s - 52: d is m or twice m, by w's 54 last digits
 pub shared : (w d : ℕ) → ((w % 2 ^ 53 < 2 ^ 52) × (d ≡ w % 2 ^ 53 + 2 ^ 52)) ⊎ ((2 ^ 52 ≤ w % 2 ^ 53) × (d ≡ w % 2 ^ 53 + w % 2 ^ 53)) → d ≡ (2 ^ 52 + w % 2 ^ 52) * (1 + (w / 2 ^ 52 + 52) % 2)
@@ -105,19 +72,18 @@ module _ (w d c : ℕ) (from : 2 ^ 53 ≤ w) (below : w < 3068 * 2 ^ 52) (e : d 
   abbrev s : ℕ
   s = w / 2 ^ 52 + 52
 
-  twice : Doubled (d * 2 ^ 52) c
-  twice = doubled (d * 2 ^ 52) c (omega (arith, e, wide m s)) near
+  large : 2 ^ 104 ≤ d * 2 ^ 52
+  large = omega (arith, e, wide m s)
 
-  root : IsRoot (d * 2 ^ 54) (twice .digits)
-  root = let f : 4 * (d * 2 ^ 52) ≡ d * 2 ^ 54 = omega arith in rw f at (twice .root)
+  small : d * 2 ^ 52 < 2 ^ 106
+  small = omega (arith, e, wide m s)
 
   pub c-below : c ≤ 2 ^ 53
-  c-below = omega (arith, twice .half, q-below d (twice .digits) (omega (arith, e, wide m s)) root)
+  c-below = few (d * 2 ^ 52) c small near
 
   pub written : RootBits (m * 2 ^ s) ((w - w % 2 ^ 53) / 2 + c)
   written =
-      let q = twice .digits in
-      let a : (w - w % 2 ^ 53) / 2 ≡ w / 2 ^ 53 * 2 ^ 52 = omega arith in
-      let b : s / 2 - 26 ≡ w / 2 ^ 53 = omega arith in
-      let f : (w - w % 2 ^ 53) / 2 + c ≡ (s / 2 - 26) * 2 ^ 52 + (q + 1) / 2 = omega (arith, a, b, twice .half) in
-      rw f (joined m s q (omega arith) (omega arith) (omega arith) (omega arith) (rw (← e) root))
+      let k : s / 2 - 26 ≡ w / 2 ^ 53 = omega arith in
+      let f : (w - w % 2 ^ 53) / 2 ≡ w / 2 ^ 53 * 2 ^ 52 = omega arith in
+      let n : m * 2 ^ s ≡ d * 2 ^ 52 * 4 ^ (w / 2 ^ 53) = parts m s (omega arith) ∙ rw (← e, k) in
+      rw (n, f) (assembled (d * 2 ^ 52) (w / 2 ^ 53) large small (omega arith) c near)

@@ -1,24 +1,26 @@
--- `sqrtOf` at each kind of f64 that `sqrt` tells apart, and what the tests of `hypot` say. Assumes nothing.
+-- `sqrtOf` and `hypotOf` at each kind of f64 that `sqrt` and `hypot` tell apart, by the bits. Assumes nothing.
 use mathlib.Core.Path.{_≡_, refl, sym, ap, _∙_}
 use Prim.Native.Nat.{ℕ, zero, suc, _+_, _-_, _*_, _/_, _%_, _^_, _≤_, _<_}
-use native.Mathlib.Nat.{zero-lt-suc, lt-of-le-of-lt, lt-of-not-le, not-le-of-lt, le-trans, le-antisymm, le-of-mul-le-mul-right, mod-eq-of-lt, mul-assoc, mul-le-mul-right, mul-lt-mul-of-pos-right, pow-succ', mul-pos, mul-div-cancel}
+use native.Mathlib.Nat.{zero-lt-suc, lt-of-le-of-lt, lt-of-not-le, not-le-of-lt, le-of-lt, le-add-right, add-comm, mod-eq-of-lt, mul-assoc, mul-le-mul-right, mul-lt-mul-of-pos-right, pow-succ', mul-pos, mul-div-cancel}
 use native.Mathlib.Omega.{arith}
-use mathlib.Core.Bool.{Bool, true, false, not, _||_, _&&_, true≢false, false≢true}
-use mathlib.Core.Logic.{inl, inr}
-use lib.Dec.{T, ltb, eqb, lit≤}
+use mathlib.Core.Bool.{Bool, true, false, not, true≢false, false≢true}
+use lib.IntN.{ℤ}
+use lib.Dec.{T, lit≤}
 use lib.Pow.{pow-add, pow-mono, pow-pos}
 use lib.Count.{leadingZeros, leading-top}
-use borrow.Author.Tests.{ltb-true, ltb-false, lt-ltb, le-ltb, eqb-true, eq-eqb}
-use lib.Ieee.{Float, nan, inf, fin, binary64, up, down, lt, eq, le, div, fits, isNan, ofBits, toBits}
+use borrow.Author.Tests.{ltb-true, ltb-false}
+use lib.Ieee.{Float, nan, inf, fin, binary64, up, down, lt, div, fits, isNan, ofBits, toBits}
 use lib.Ieee.Fits.{up-pos, down-pos}
 use lib.Ieee.Bits.{ofBits-toBits}
 use lib.Ieee.Exact.{HasValue}
 use Rattle.floats.specs.Words.{plusZero}
 use Rattle.floats.specs.Signs.{minus}
 use Rattle.roots.specs.Root.{sqrtOf, rootOf}
-use Rattle.roots.specs.Hypot.{least}
-use Rattle.roots.proofs.Squares.{side}
-use Rattle.roots.proofs.Ladder.{top, unitsOf, rising, below-top, own-value}
+use Rattle.roots.specs.Hypot.{inUnits, hypotOf}
+use Rattle.roots.specs.Nearest.{Sized}
+use Rattle.roots.specs.Patterns.{top, unitsOf, squareSum}
+use Rattle.roots.proofs.Ladder.{rising, below-top, own-value, size-below, size-value}
+use Rattle.roots.proofs.Rounding.{root-beyond}
 
 pub negative : (x : Float) → lt x plusZero ≡ true → div binary64 plusZero plusZero ≡ sqrtOf x
 unfolding lt div ofBits sqrtOf
@@ -54,6 +56,10 @@ infinite (inf false) F h e = refl
 infinite (fin true m d) F h e = absurd (false≢true h)
 infinite (fin false m d) F h e = absurd (omega (arith, below-top (fin false m d) F tt refl))
 
+-- a number of A units
+in-units : (m : ℕ) (e : ℤ) (A : ℕ) → m * up e * 2 ^ 1074 ≡ A * down e → inUnits m e ≡ A
+in-units m e A h = ap (λ (n : ℕ). n / down e) h ∙ mul-div-cancel A (down-pos e)
+
 -- the root of a units
 pub sqrt-units : (x : Float) (a : ℕ) → 0 < a → HasValue x false a (2 ^ 1074) → sqrtOf x ≡ rootOf (a * 2 ^ 1074)
 unfolding sqrtOf
@@ -64,7 +70,7 @@ sqrt-units (fin s zero e) a p h = absurd (none (up e) (2 ^ 1074) (a * down e) (m
     none : (u w y : ℕ) → 0 < y → 0 * u * w ≡ y → ⊥
     none u w y p e = omega arith
 sqrt-units (fin true (suc m) e) a p h = absurd (true≢false (h .0))
-sqrt-units (fin false (suc m) e) a p h = ap (λ (n : ℕ). rootOf (n * 2 ^ 1074)) (ap (λ (n : ℕ). n / down e) (h .1) ∙ mul-div-cancel a (down-pos e))
+sqrt-units (fin false (suc m) e) a p h = ap (λ (n : ℕ). rootOf (n * 2 ^ 1074)) (in-units (suc m) e a (h .1))
 
 -- x has the pattern b, above 0's and below infinity's
 pub root-at : (x : Float) → T (fits binary64 x) → let b = toBits binary64 x in 0 < b → b < top → sqrtOf x ≡ rootOf (unitsOf b * 2 ^ 1074)
@@ -102,64 +108,6 @@ unfolding toBits isNan
 finite nan h = absurd (omega arith)
 finite (inf s) h = tt
 finite (fin s m e) h = tt
-
--- ---- what `hypot` tests: that x is at least 2 ^ -900, and below infinity. Where x is finite, the first is a comparison of two whole numbers
-at-least : (a b : ℕ) → ltb b a || (eqb b a && (true || eqb b 0)) ≡ true → b ≤ a
-at-least a b h = elim (side b a) [ inl l ↦ omega arith | inr g ↦ omega (arith, same (eqb b a) (eqb-true b a) (rw (le-ltb b a g) at h)) ]
-  where
-    same : (t : Bool) → (t ≡ true → b ≡ a) → false || (t && (true || eqb b 0)) ≡ true → b ≡ a
-    same true f h = f refl
-    same false f h = absurd (false≢true h)
-
-none : (p d : ℕ) → 0 < d → p + 1 * 1 * d ≤ 0 → ⊥
-none p d h k = omega arith
-
--- what is at least 2 ^ -900 is not below it
-pub not-less : (x : Float) → le least x ≡ true → lt x least ≡ false
-unfolding le lt eq ofBits
-not-less nan h = refl
-not-less (inf true) h = absurd (false≢true h)
-not-less (inf false) h = refl
-not-less (fin true m e) h = absurd (zero (eqb (1 * 1 * down e) (m * up e * 2 ^ 900)) (eqb (1 * 1 * down e) 0) (λ z. none 0 (down e) (down-pos e) (omega (arith, eqb-true (1 * 1 * down e) 0 z))) h)
-  where
-    zero : (s t : Bool) → (t ≡ true → ⊥) → s && t ≡ true → ⊥
-    zero true true f h = f refl
-    zero true false f h = false≢true h
-    zero false t f h = false≢true h
-not-less (fin false m e) h = le-ltb (m * up e * 2 ^ 900) (1 * 1 * down e) (at-least (m * up e * 2 ^ 900) (1 * 1 * down e) h)
-
--- what is neither at least 2 ^ -900 nor below it is no number
-pub unordered : (x : Float) → le least x ≡ false → lt x least ≡ false → lt x (inf false) ≡ false
-unfolding le lt eq ofBits
-unordered nan h k = refl
-unordered (inf true) h k = absurd (true≢false k)
-unordered (inf false) h k = absurd (true≢false h)
-unordered (fin true m e) h k = absurd (none (m * up e * 2 ^ 900) (down e) (down-pos e) (ltb-false 0 (m * up e * 2 ^ 900 + 1 * 1 * down e) k))
-unordered (fin false m e) h k = absurd (neither (m * up e * 2 ^ 900) (1 * 1 * down e) h k)
-  where
-    neither : (a b : ℕ) → ltb b a || (eqb b a && (true || eqb b 0)) ≡ false → ltb a b ≡ false → ⊥
-    neither a b h k = elim (side b a) [
-      | inl l ↦ true≢false (rw (lt-ltb b a l) at h)
-      | inr g ↦ let l : b ≡ a = le-antisymm (ltb-false a b k) g in true≢false (rw (le-ltb b a g, eq-eqb b a l) at h)
-    ]
-
--- u / d is b / (v * w), and at least 1 / v: so b is at least w
-reaches : (u d v w b : ℕ) → 0 < d → 1 * 1 * d ≤ u * v → u * (v * w) ≡ b * d → w ≤ b
-reaches u d v w b p h e = le-of-mul-le-mul-right (omega (arith, e, mul-le-mul-right w h)) p
-
--- what is not below 2 ^ -900, and below infinity, is finite and not subnormal
-pub ordinary : (x : Float) → T (fits binary64 x) → lt x least ≡ false → lt x (inf false) ≡ true → (2 ^ 52 ≤ toBits binary64 x) × (toBits binary64 x < top)
-unfolding lt ofBits minus
-ordinary nan F h k = absurd (false≢true k)
-ordinary (inf true) F h k = absurd (true≢false h)
-ordinary (inf false) F h k = absurd (false≢true k)
-ordinary (fin true m e) F h k = absurd (none (m * up e * 2 ^ 900) (down e) (down-pos e) (ltb-false 0 (m * up e * 2 ^ 900 + 1 * 1 * down e) h))
-ordinary (fin false m e) F h k =
-    let b = toBits binary64 (fin false m e) in
-    let u = below-top (fin false m e) F tt refl in
-    let l : 1 * 1 * down e ≤ m * up e * 2 ^ 900 = ltb-false (m * up e * 2 ^ 900) (1 * 1 * down e) h in
-    let n : 2 ^ 174 ≤ unitsOf b = reaches (m * up e) (down e) (2 ^ 900) (2 ^ 174) (unitsOf b) (down-pos e) l (own-value (fin false m e) F u .1) in
-    (elim (side b (2 ^ 52)) [ inl g ↦ absurd (not-le-of-lt (rising b (2 ^ 52) g) (le-trans (lit≤ tt) n)) | inr g ↦ g ], u)
 
 -- ---- its units with 53 digits, the leading one as the field has it, or shifted up to where a field would have it: as `root_bits` has them
 pub normal : (b : ℕ) → 2 ^ 52 ≤ b → let w = b + 1021 * 2 ^ 52 in (2 ^ 52 + w % 2 ^ 52) * 2 ^ (w / 2 ^ 52 + 52) ≡ unitsOf b * 2 ^ 1074
@@ -199,3 +147,35 @@ subnormal b z e s =
     let l : z + (1074 - z) ≡ 1074 = omega (arith, s .most) in
     let q : b ≡ (b - 0) * 1 = omega arith in
     rw (i, d, mul-assoc b (2 ^ z) (2 ^ (1074 - z)), ← pow-add 2 z (1074 - z), l, e) (ap (λ (x : ℕ). x * 2 ^ 1074) q)
+
+-- ---- hypot, by the bits of two numbers with their signs off: an infinity's stand for 2 ^ 2098 units, from where on a root is infinite
+pub number-below : (x : Float) → T (fits binary64 x) → isNan x ≡ false → toBits binary64 x % 2 ^ 63 ≤ top
+unfolding toBits isNan
+number-below nan F h = absurd (true≢false h)
+number-below (inf true) F h = lit≤ tt
+number-below (inf false) F h = lit≤ tt
+number-below (fin s m e) F h = le-of-lt (size-below (fin s m e) F tt)
+
+pub hypot-units : (x y : Float) (A B : ℕ) → Sized x A → Sized y B → hypotOf x y ≡ rootOf (A * A + B * B)
+unfolding hypotOf
+hypot-units nan y A B s t = absurd (s .value)
+hypot-units (inf u) y A B s t = absurd (s .value)
+hypot-units (fin u m e) nan A B s t = absurd (t .value)
+hypot-units (fin u m e) (inf v) A B s t = absurd (t .value)
+hypot-units (fin u m e) (fin v n d) A B s t = rw (in-units m e A (s .value .1), in-units n d B (t .value .1))
+
+pub squares-swap : (p q : ℕ) → squareSum p q ≡ squareSum q p
+squares-swap p q = add-comm (unitsOf p * unitsOf p) (unitsOf q * unitsOf q)
+
+top-first : (s : Bool) (q : ℕ) → inf false ≡ rootOf (squareSum (toBits binary64 (inf s) % 2 ^ 63) q)
+unfolding toBits
+top-first true q = sym (root-beyond (squareSum top q) (le-add-right (unitsOf top * unitsOf top) (unitsOf q * unitsOf q)))
+top-first false q = sym (root-beyond (squareSum top q) (le-add-right (unitsOf top * unitsOf top) (unitsOf q * unitsOf q)))
+
+pub hypot-at : (x y : Float) → T (fits binary64 x) → T (fits binary64 y) → isNan x ≡ false → isNan y ≡ false → hypotOf x y ≡ rootOf (squareSum (toBits binary64 x % 2 ^ 63) (toBits binary64 y % 2 ^ 63))
+unfolding hypotOf isNan
+hypot-at nan y F G h k = absurd (true≢false h)
+hypot-at (inf s) y F G h k = top-first s (toBits binary64 y % 2 ^ 63)
+hypot-at (fin s m e) nan F G h k = absurd (true≢false k)
+hypot-at (fin s m e) (inf t) F G h k = top-first t (toBits binary64 (fin s m e) % 2 ^ 63) ∙ ap rootOf (squares-swap (toBits binary64 (inf t) % 2 ^ 63) (toBits binary64 (fin s m e) % 2 ^ 63))
+hypot-at (fin s m e) (fin t n d) F G h k = hypot-units (fin s m e) (fin t n d) _ _ (record { sign = _; value = size-value (fin s m e) F tt }) (record { sign = _; value = size-value (fin t n d) G tt })

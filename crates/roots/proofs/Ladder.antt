@@ -3,11 +3,11 @@
 use mathlib.Core.Path.{_≡_, refl, sym, ap, _∙_, subst}
 use mathlib.Core.Logic.{_⊎_, inl, inr}
 use Prim.Native.Nat.{ℕ, zero, suc, _+_, _-_, _*_, _/_, _%_, _^_, _≤_, _<_}
-use native.Mathlib.Nat.{eq-or-lt-of-le, le-of-suc-le-suc, lt-trans, pow-succ', eq-of-mul-eq-mul-right}
+use native.Mathlib.Nat.{eq-or-lt-of-le, le-of-eq, le-of-suc-le-suc, lt-trans, pow-succ', eq-of-mul-eq-mul-right}
 use native.Mathlib.Omega.{arith}
 use mathlib.Core.Bool.{Bool, true, false, not, cond}
 use lib.Dec.{T, leb, ltb, eqb}
-use borrow.Author.Tests.{lt-leb, leb-false, ne-eqb, eqb-false}
+use borrow.Author.Tests.{lt-leb, leb-false, le-ltb, ne-eqb, eqb-false}
 use lib.Arith.{le→nltb}
 use lib.Pow.{pow-pos}
 use lib.Ieee.{Float, nan, inf, fin, binary64, down, odd, units, fits, nanBits, ofFields, ofBits, toBits}
@@ -17,19 +17,9 @@ use lib.Ieee.Scale.{finite}
 use lib.Ieee.Exact.{HasValue, units-val, odd-sign}
 use Rattle.floats.specs.Signs.{minus}
 use Rattle.floats.proofs.SignLaws.{sign-bit}
+use Rattle.roots.specs.Patterns.{top, dropped, unitsOf}
 use Rattle.roots.specs.Nearest.{Holds}
 use Rattle.roots.proofs.Squares.{side}
-
--- infinity's pattern
-abbrev pub top : ℕ
-top = 0x7ff0_0000_0000_0000
-
--- how many digits are dropped, k, and the value in units: b is k * 2 ^ 52 + q, with the digits q
-abbrev pub dropped : ℕ → ℕ
-dropped b = b / 2 ^ 52 - 1
-
-abbrev pub unitsOf : ℕ → ℕ
-unitsOf b = (b - dropped b * 2 ^ 52) * 2 ^ dropped b
 
 -- q is a value's leading digits: all that the format has, or as many as there are
 abbrev pub Leads : ℕ → ℕ → Type 0
@@ -73,23 +63,24 @@ ofBits-is : (b : ℕ) → ofBits binary64 b ≡ ofFields binary64 (leb (2 ^ 63) 
 unfolding ofBits
 ofBits-is b = refl
 
-sign-clear : (b : ℕ) → b < top → ofBits binary64 b ≡ ofFields binary64 false (b / 2 ^ 52) (b % 2 ^ 52)
-sign-clear b u =
-    let e : b % 2 ^ 63 / 2 ^ 52 ≡ b / 2 ^ 52 = omega arith in
-    ofBits-is b ∙ rw (lt-leb (2 ^ 63) b (omega arith), e)
-
-read : (b x : ℕ) → b < top → b / 2 ^ 52 ≡ x → ofBits binary64 b ≡ odd 53 false (b - dropped b * 2 ^ 52) (dropped b) 1074
+-- b with its sign off is c
+read : (b c x : ℕ) → b % 2 ^ 63 ≡ c → c < top → c / 2 ^ 52 ≡ x → ofBits binary64 b ≡ odd 53 (leb (2 ^ 63) b) (c - dropped c * 2 ^ 52) (dropped c) 1074
 unfolding ofFields
-read b zero u e =
-    let q : b % 2 ^ 52 ≡ b - 0 = omega arith in
-    sign-clear b u ∙ rw (e, q)
-read b (suc x) u e =
+read b c zero o u e =
+    let q : b % 2 ^ 52 ≡ c - 0 = omega arith in
+    ofBits-is b ∙ rw (o, e, q)
+read b c (suc x) o u e =
     let k : suc x - 1 ≡ x = omega arith in
-    let q : b - x * 2 ^ 52 ≡ 2 ^ 52 + b % 2 ^ 52 = omega arith in
-    sign-clear b u ∙ rw (e, k, q, ne-eqb (suc x) 2047 (omega arith))
+    let q : c - x * 2 ^ 52 ≡ 2 ^ 52 + b % 2 ^ 52 = omega arith in
+    ofBits-is b ∙ rw (o, e, k, q, ne-eqb (suc x) 2047 (omega arith))
+
+signed-value : (b : ℕ) → b % 2 ^ 63 < top → HasValue (ofBits binary64 b) (leb (2 ^ 63) b) (unitsOf (b % 2 ^ 63)) (2 ^ 1074)
+signed-value b u = let c = b % 2 ^ 63 in rw (read b c (c / 2 ^ 52) refl u refl) (odd-sign 53 (leb (2 ^ 63) b) (c - dropped c * 2 ^ 52) (dropped c) 1074)
 
 pattern-value : (b : ℕ) → b < top → HasValue (ofBits binary64 b) false (unitsOf b) (2 ^ 1074)
-pattern-value b u = rw (read b (b / 2 ^ 52) u refl) (odd-sign 53 false (b - dropped b * 2 ^ 52) (dropped b) 1074)
+pattern-value b u =
+    let e : b % 2 ^ 63 ≡ b = omega arith in
+    rw (lt-leb (2 ^ 63) b (omega arith), e) at (signed-value b (omega arith))
 
 -- ---- and which patterns are such values'
 fields-finite : (s : Bool) (x t : ℕ) → T (finite (ofFields binary64 s x t)) → x ≡ 2047 → ⊥
@@ -102,11 +93,20 @@ fields-finite s (suc x) t h = go (eqb (suc x) 2047) refl (eqb t 0) h
     go true e false h = absurd h
     go false e b h = eqb-false (suc x) 2047 e
 
-pub below-top : (x : Float) → T (fits binary64 x) → T (finite x) → minus x ≡ false → toBits binary64 x < top
-below-top x F h m =
+pub size-below : (x : Float) → T (fits binary64 x) → T (finite x) → toBits binary64 x % 2 ^ 63 < top
+size-below x F h =
     let b = toBits binary64 x in
     let f = fields-finite (leb (2 ^ 63) b) (b % 2 ^ 63 / 2 ^ 52) (b % 2 ^ 52) (rw (← ofBits-is b, ofBits-toBits binary64 x F) h) in
-    omega (arith, leb-false (2 ^ 63) b (sign-bit x F ∙ m))
+    omega arith
+
+pub below-top : (x : Float) → T (fits binary64 x) → T (finite x) → minus x ≡ false → toBits binary64 x < top
+below-top x F h m = let b = toBits binary64 x in omega (arith, size-below x F h, leb-false (2 ^ 63) b (sign-bit x F ∙ m))
+
+-- a finite value in units, by its pattern with the sign off
+pub size-value : (x : Float) → T (fits binary64 x) → T (finite x) → let b = toBits binary64 x in HasValue x (leb (2 ^ 63) b) (unitsOf (b % 2 ^ 63)) (2 ^ 1074)
+size-value x F h =
+    let b = toBits binary64 x in
+    subst (λ (v : Float). HasValue v (leb (2 ^ 63) b) (unitsOf (b % 2 ^ 63)) (2 ^ 1074)) (ofBits-toBits binary64 x F) (signed-value b (size-below x F h))
 
 signs : (v : Float) (a c : ℕ) → HasValue v false a c → T (finite v) × (minus v ≡ false)
 unfolding minus
@@ -139,11 +139,11 @@ rung y Y h =
 pub holds : (b : ℕ) → b < top → Holds (ofBits binary64 b) (unitsOf b)
 holds b u = (ofBits-fits binary64 b, pattern-value b u)
 
-pub known : (b : ℕ) → b < top → T (not (nanBits binary64 b))
+pub known : (b : ℕ) → b ≤ top → T (not (nanBits binary64 b))
 known b u = rw (nanBits-above binary64 b) (le→nltb top (b % 2 ^ 63) (omega arith))
 
 pub written : (b : ℕ) → b < top → toBits binary64 (ofBits binary64 b) ≡ b
-written b u = toBits-ofBits binary64 b (omega arith) (rw (← nanBits-is binary64 b) (known b u))
+written b u = toBits-ofBits binary64 b (omega arith) (rw (← nanBits-is binary64 b) (known b (omega arith)))
 
 -- one value of so many units
 pub level : (b c : ℕ) → unitsOf b ≡ unitsOf c → b ≡ c
@@ -158,12 +158,26 @@ same y z Y h k =
     let s = rung z Y k in
     r .value ∙ ap (ofBits binary64) (level (toBits binary64 y) (toBits binary64 z) (sym (r .units) ∙ s .units)) ∙ sym (s .value)
 
--- ---- `units`, which rounding ends in, as a pattern
-pub units-rung : (q k : ℕ) → Leads q k → q ≤ 2 ^ 53 → k * 2 ^ 52 + q < top → units binary64 false q k ≡ ofBits binary64 (k * 2 ^ 52 + q)
-units-rung q k l h u =
-    let b = k * 2 ^ 52 + q in
-    let r : q * 2 ^ k < 2 ^ 2098 = rw (place q k l h) at (rising b top u) in
-    same (units binary64 false q k) (ofBits binary64 b) (q * 2 ^ k) (units-fits r, units-val binary64 false q k r) (rw (place q k l h) at (holds b u))
+-- ---- `units`, which rounding ends in, as a pattern: infinity's from 2 ^ 2098 units on
+pub endless : ofBits binary64 top ≡ inf false
+unfolding ofBits
+endless = refl
+
+pub units-beyond : (q k : ℕ) → 2 ^ 2098 ≤ q * 2 ^ k → units binary64 false q k ≡ inf false
+unfolding units
+units-beyond q k h = rw (le-ltb (q * 2 ^ k) (2 ^ 2098) h)
+
+pub units-rung : (q k : ℕ) → Leads q k → q ≤ 2 ^ 53 → k * 2 ^ 52 + q ≤ top → units binary64 false q k ≡ ofBits binary64 (k * 2 ^ 52 + q)
+units-rung q k l h u = elim (eq-or-lt-of-le u) [ inl e ↦ last e | inr g ↦ within g ]
   where
+    last : k * 2 ^ 52 + q ≡ top → units binary64 false q k ≡ ofBits binary64 (k * 2 ^ 52 + q)
+    last e = units-beyond q k (le-of-eq (sym (ap unitsOf e) ∙ place q k l h)) ∙ sym endless ∙ ap (ofBits binary64) (sym e)
+
     units-fits : q * 2 ^ k < 2 ^ 2098 → T (fits binary64 (units binary64 false q k))
     units-fits r = unfold units in cond-fits binary64 (ltb (q * 2 ^ k) (2 ^ 2098)) (odd 54 false q k 1074) (inf false) (odd-fits binary64 54 false q k (omega arith) h r) (inf-fits binary64 false)
+
+    within : k * 2 ^ 52 + q < top → units binary64 false q k ≡ ofBits binary64 (k * 2 ^ 52 + q)
+    within g =
+        let b = k * 2 ^ 52 + q in
+        let r : q * 2 ^ k < 2 ^ 2098 = rw (place q k l h) at (rising b top g) in
+        same (units binary64 false q k) (ofBits binary64 b) (q * 2 ^ k) (units-fits r, units-val binary64 false q k r) (rw (place q k l h) at (holds b g))

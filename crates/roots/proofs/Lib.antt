@@ -2,10 +2,15 @@ pub mod Squares
 pub mod LineLaws
 pub mod Guess
 pub mod Division
+pub mod Leading
 pub mod Ladder
 pub mod Rounding
+pub mod Parts
+pub mod Steps
+pub mod Window
 pub mod Assemble
 pub mod Cases
+pub mod SumBits
 pub mod Nearest
 pub mod Examples
 pub mod Laws

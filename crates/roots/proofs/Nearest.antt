@@ -1,20 +1,23 @@
--- `sqrtOf` is the nearest value of the format, by the definition that names no algorithm, and that definition leaves one value.
--- Both go by patterns: what holds of the two neighbours of √n holds of all values, since the ladder rises. Assumes nothing.
+-- `sqrtOf` and `hypotOf` are the nearest value of the format, by the definition that names no algorithm, and that definition leaves one value.
+-- All go by patterns: what holds of the two neighbours of √n holds of all values, since the ladder rises. Assumes nothing.
 use mathlib.Core.Path.{_≡_, refl, sym, ap, _∙_}
 use mathlib.Core.Logic.{inl, inr}
 use Prim.Native.Nat.{ℕ, zero, suc, _+_, _*_, _%_, _^_, _≤_, _<_, compare, Ordering, Ordering·lt, Ordering·eq, Ordering·gt}
-use native.Mathlib.Nat.{le-trans, le-of-lt, le-of-eq, lt-of-lt-of-le, lt-trans, not-le-of-lt, eq-or-lt-of-le, mul-lt-mul-of-pos-right}
+use native.Mathlib.Nat.{le-trans, le-of-lt, le-of-eq, lt-of-lt-of-le, lt-trans, not-le-of-lt, eq-or-lt-of-le, mul-le-mul-left, mul-lt-mul-of-pos-left, mul-lt-mul-of-pos-right}
 use native.Mathlib.Omega.{arith}
+use mathlib.Core.Bool.{false, true≢false, false≢true}
 use lib.Dec.{lit<, lit≤}
 use lib.Pow.{pow-pos}
-use lib.Ieee.{Float, binary64, nearest, ofBits, toBits}
+use lib.Ieee.{Float, nan, inf, fin, binary64, nearest, isNan, ofBits, toBits}
 use lib.Ieee.Fits.{nearest-le}
 use Rattle.roots.specs.Root.{rootOf}
-use Rattle.roots.specs.Nearest.{NearestRoot, RootIsNearest, NearestIsOne}
+use Rattle.roots.specs.Hypot.{hypotOf}
+use Rattle.roots.specs.Nearest.{NearestRoot, RootIsNearest, NearestIsOne, beyond, HypotIsNearest, HypotOverflows, HypotAtEnds}
 use Rattle.roots.proofs.Squares.{side, sq-le, sq-lt}
-use Rattle.roots.proofs.Ladder.{top, unitsOf, rising, level, rung, holds, written}
-use Rattle.roots.proofs.Rounding.{Ordered, ordered, middle, root-rung}
-use Rattle.roots.proofs.Cases.{sqrt-units}
+use Rattle.roots.specs.Patterns.{top, unitsOf}
+use Rattle.roots.proofs.Ladder.{rising, level, rung, holds, written, endless}
+use Rattle.roots.proofs.Rounding.{Ordered, ordered, decided, middle, root-rung, root-beyond}
+use Rattle.roots.proofs.Cases.{sqrt-units, hypot-units}
 
 -- ---- any ladder: numbers U 0, U 1, .. that rise. Of those below U m the step r is nearest to √n where √n lies on its side of the middle between it and any other
 pub record Near (U : ℕ → ℕ) (m n r : ℕ) : Type 0 where
@@ -104,23 +107,63 @@ from-values n r R N =
       even = λ c w ne t. N .even (ofBits binary64 c) (unitsOf c) (holds c w) (λ e. ne (level c b (e ∙ s .units))) (rw (s .units) t);
     }
 
--- the root of n units, where it is below the pattern c
-pub root-nearest : (n c : ℕ) → c < top → n < unitsOf c * unitsOf c → (R : ℕ) × NearestRoot n (rootOf n) R
-root-nearest n c u h =
-    let d = between unitsOf top rising c n h refl in
+-- ---- the root of n units: the nearest value, or infinity
+-- the largest value's pattern: its middle with the next decides, and it is odd, so that a tie goes up
+abbrev last : ℕ
+last = 0x7fef_ffff_ffff_ffff
+
+pub root-nearest : (n : ℕ) → n < beyond → (R : ℕ) × NearestRoot n (rootOf n) R
+root-nearest n h =
+    let d = between unitsOf top rising top n (lt-of-lt-of-le h (lit≤ tt)) refl in
     let b = d .0 in
     let o = compare (4 * n) (middle b * middle b) in
-    let e : rootOf n ≡ ofBits binary64 (nearest b o) = root-rung n b (omega (arith, d .1)) (d .2) (d .3) in
+    let e : rootOf n ≡ ofBits binary64 (nearest b o) = root-rung n b (d .1) (d .2) (d .3) in
     let N = near unitsOf top rising n b (d .2) (d .3) o (ordered (4 * n) (middle b * middle b)) in
-    (unitsOf (nearest b o), rw e (to-values n (nearest b o) (omega (arith, nearest-le b o, d .1)) N))
+    (unitsOf (nearest b o), rw e (to-values n (nearest b o) (inside b (d .1)) N))
+  where
+    inside : (b : ℕ) → b < top → nearest b (compare (4 * n) (middle b * middle b)) < top
+    inside b u = elim (side b last) [
+      | inl g ↦ omega (arith, nearest-le b (compare (4 * n) (middle b * middle b)))
+      | inr g ↦
+          let e : b ≡ last = omega arith in
+          rw (e, decided (4 * n) (middle last * middle last) Ordering·lt (mul-lt-mul-of-pos-left h (lit< tt))) (lit< tt)
+    ]
+
+pub root-overflows : (n : ℕ) → beyond ≤ n → rootOf n ≡ inf false
+root-overflows n h = elim (side n (unitsOf top * unitsOf top)) [
+  | inl g ↦ root-rung n last (lit< tt) (le-trans (lit≤ tt) h) g ∙ go (compare (4 * n) (middle last * middle last)) (ordered (4 * n) (middle last * middle last))
+  | inr g ↦ root-beyond n g
+]
+  where
+    go : (o : Ordering) → Ordered (4 * n) (middle last * middle last) o → ofBits binary64 (nearest last o) ≡ inf false
+    go Ordering·lt l = absurd (not-le-of-lt l (mul-le-mul-left 4 h))
+    go Ordering·eq l = endless
+    go Ordering·gt l = endless
 
 pub root-is-nearest : RootIsNearest
 root-is-nearest x a h p =
     let s = rung x a h in
     let l : a < 2 ^ 2098 = rw (s .units) (rising (toBits binary64 x) top (s .below)) in
-    let c = 1535 * 2 ^ 52 in
-    rw (sqrt-units x a p (h .1)) (root-nearest (a * 2 ^ 1074) c (lit< tt) (lt-of-lt-of-le (mul-lt-mul-of-pos-right l (pow-pos 1074)) (lit≤ tt)))
+    rw (sqrt-units x a p (h .1)) (root-nearest (a * 2 ^ 1074) (lt-of-lt-of-le (mul-lt-mul-of-pos-right l (pow-pos 1074)) (lit≤ tt)))
 
+-- ---- hypot
+pub hypot-is-nearest : HypotIsNearest
+hypot-is-nearest x y A B s t h = rw (hypot-units x y A B s t) (root-nearest (A * A + B * B) h)
+
+pub hypot-overflows : HypotOverflows
+hypot-overflows x y A B s t h = hypot-units x y A B s t ∙ root-overflows (A * A + B * B) h
+
+pub hypot-at-ends : HypotAtEnds
+unfolding hypotOf isNan
+hypot-at-ends nan nan = (λ h. absurd (false≢true h), λ h k. refl)
+hypot-at-ends nan (inf t) = (λ h. refl, λ h. absurd (true≢false h))
+hypot-at-ends nan (fin t n d) = (λ h. absurd (false≢true h), λ h k. refl)
+hypot-at-ends (inf s) y = (λ h. refl, λ h. absurd (true≢false h))
+hypot-at-ends (fin s m e) nan = (λ h. absurd (false≢true h), λ h k. refl)
+hypot-at-ends (fin s m e) (inf t) = (λ h. refl, λ h. absurd (true≢false h))
+hypot-at-ends (fin s m e) (fin t n d) = (λ h. absurd (false≢true h), λ h k. absurd (false≢true k))
+
+-- ---- one nearest value
 pub nearest-is-one : NearestIsOne
 nearest-is-one n r s R S a b =
     let c = toBits binary64 r in

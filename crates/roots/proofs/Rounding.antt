@@ -2,19 +2,20 @@
 use mathlib.Core.Path.{_≡_, refl, sym, ap, _∙_, subst}
 use mathlib.Core.Logic.{inl, inr}
 use Prim.Native.Nat.{ℕ, zero, suc, _+_, _-_, _*_, _/_, _%_, _^_, _≤_, _<_, compare, Ordering, Ordering·lt, Ordering·eq, Ordering·gt, zero-le}
-use native.Mathlib.Nat.{le-antisymm, le-trans, lt-of-lt-of-le, lt-of-not-le, not-le-of-lt, mul-le-mul-right, le-div-iff-mul-le, div-lt-iff-lt-mul, pow-suc}
+use native.Mathlib.Nat.{le-antisymm, le-trans, lt-of-lt-of-le, lt-of-not-le, not-le-of-lt, mul-le-mul-right, mul-lt-mul-of-pos-right, le-div-iff-mul-le, div-lt-iff-lt-mul, pow-suc}
 use native.Mathlib.Omega.{arith}
 use mathlib.Core.Bool.{Bool, true, false, not, cond}
 use lib.Dec.{T, leb, eqb, isLe, isEq, leb→le, nleb→lt, eqb→eq, eqb-refl, lit<}
 use borrow.Author.Tests.{leb-true, leb-false}
 use lib.Pow.{pow-add, pow-mono, pow-pos}
-use lib.Ieee.{binary64, size, nearest, units, ofBits}
-use lib.Ieee.Digits.{size-lt, size-le}
+use lib.Ieee.{inf, binary64, size, nearest, units, ofBits}
+use lib.Ieee.Digits.{size-lt, size-le, size-reaches}
 use lib.Ieee.Fits.{nearest-le}
 use lib.Ieee.Nearest.{nearest-ge}
 use Rattle.roots.specs.Root.{IsRoot, rootIn, isqrt, rootOf}
-use Rattle.roots.proofs.Squares.{root-ge, root-lt}
-use Rattle.roots.proofs.Ladder.{top, dropped, unitsOf, Leads, leads, above, units-rung}
+use Rattle.roots.proofs.Squares.{four-power, root-ge, root-lt}
+use Rattle.roots.specs.Patterns.{top, dropped, unitsOf}
+use Rattle.roots.proofs.Ladder.{Leads, leads, above, units-beyond, units-rung}
 
 -- ---- `isqrt n` is the whole part of √n: p is that of n / 4, and 2 * p or the next number that of n
 more : (n p : ℕ) (b : Bool) → leb ((2 * p + 1) * (2 * p + 1)) n ≡ b → IsRoot (n / 4) p → IsRoot n (cond b (2 * p + 1) (2 * p))
@@ -28,16 +29,12 @@ rootIn-is (suc k) n h =
     let p = rootIn k (n / 4) in
     more n p (leb ((2 * p + 1) * (2 * p + 1)) n) refl (rootIn-is k (n / 4) (div-lt-iff-lt-mul (lit< tt) .1 (rw (pow-suc 4 k) at h)))
 
-four : (k : ℕ) → 4 ^ k ≡ 2 ^ (k + k)
-four zero = refl
-four (suc k) = let s : suc k + suc k ≡ 2 + (k + k) = omega arith in rw (pow-suc 4 k, s, pow-add 2 2 (k + k), four k) (omega arith)
-
 pub isqrt-is : (n : ℕ) → IsRoot n (isqrt n)
 unfolding isqrt
 isqrt-is n =
     let j = suc (size n / 2) in
     let s : size n ≤ j + j = omega arith in
-    rootIn-is j n (lt-of-lt-of-le (size-lt n) (rw (four j) (pow-mono s)))
+    rootIn-is j n (lt-of-lt-of-le (size-lt n) (rw (four-power j, ← pow-add 2 j j) (pow-mono s)))
 
 -- ---- what a comparison says
 abbrev pub Ordered : ℕ → ℕ → Ordering → Type 0
@@ -52,6 +49,30 @@ ordered a b = go (compare a b) (leb→le a b) (nleb→lt a b) (eqb→eq a b) (λ
     go Ordering·lt le gt eq is = let l : a ≤ b = le tt in let n : a ≡ b → ⊥ = is in omega arith
     go Ordering·eq le gt eq is = eq tt
     go Ordering·gt le gt eq is = gt tt
+
+-- and what it is where that is known
+pub decided : (a b : ℕ) (o : Ordering) → Ordered a b o → compare a b ≡ o
+decided a b o h = go (compare a b) o (ordered a b) h
+  where
+    go : (o p : Ordering) → Ordered a b o → Ordered a b p → o ≡ p
+    go Ordering·lt Ordering·lt h k = refl
+    go Ordering·lt Ordering·eq h k = absurd (omega arith)
+    go Ordering·lt Ordering·gt h k = absurd (omega arith)
+    go Ordering·eq Ordering·lt h k = absurd (omega arith)
+    go Ordering·eq Ordering·eq h k = refl
+    go Ordering·eq Ordering·gt h k = absurd (omega arith)
+    go Ordering·gt Ordering·lt h k = absurd (omega arith)
+    go Ordering·gt Ordering·eq h k = absurd (omega arith)
+    go Ordering·gt Ordering·gt h k = refl
+
+-- both sides u times as large
+pub compare-scaled : (a b u : ℕ) → 0 < u → compare (a * u) (b * u) ≡ compare a b
+compare-scaled a b u p = decided (a * u) (b * u) (compare a b) (go (compare a b) (ordered a b))
+  where
+    go : (o : Ordering) → Ordered a b o → Ordered (a * u) (b * u) o
+    go Ordering·lt h = mul-lt-mul-of-pos-right h p
+    go Ordering·eq h = ap (λ (x : ℕ). x * u) h
+    go Ordering·gt h = mul-lt-mul-of-pos-right h p
 
 -- ---- how many digits of the root are dropped: w is its whole part
 shed : (w q k : ℕ) → Leads q k → q < 2 ^ 53 → q * 2 ^ k ≤ w → w < (q + 1) * 2 ^ k → size w - 53 ≡ k
@@ -81,7 +102,7 @@ nearest-far q A Ordering·lt e = refl
 nearest-far q A Ordering·eq e = omega arith
 nearest-far q A Ordering·gt e = omega arith
 
-pub root-rung : (n b : ℕ) → suc b < top → unitsOf b * unitsOf b ≤ n → n < unitsOf (suc b) * unitsOf (suc b) → rootOf n ≡ ofBits binary64 (nearest b (compare (4 * n) (middle b * middle b)))
+pub root-rung : (n b : ℕ) → b < top → unitsOf b * unitsOf b ≤ n → n < unitsOf (suc b) * unitsOf (suc b) → rootOf n ≡ ofBits binary64 (nearest b (compare (4 * n) (middle b * middle b)))
 root-rung n b u lo hi =
     let w = isqrt n in
     let k = dropped b in
@@ -98,3 +119,16 @@ root-rung n b u lo hi =
     let f : Leads (nearest q o) k = elim (leads b) [ inl z ↦ inl z | inr h ↦ inr (le-trans h least) ] in
     let s : b ≡ k * 2 ^ 52 + q = omega arith in
     rootOf-is n ∙ rw (e, d, m) (units-rung (nearest q o) k f (omega arith) (omega arith)) ∙ ap (ofBits binary64) (sym (ap (λ (x : ℕ). nearest x o) s ∙ nearest-far q (k * 2 ^ 52) o (omega arith)))
+
+-- from 2 ^ 2098 units on the root is beyond the range
+pub root-beyond : (n : ℕ) → 2 ^ 2098 * 2 ^ 2098 ≤ n → rootOf n ≡ inf false
+root-beyond n h =
+    let w = isqrt n in
+    let k = size w - 53 in
+    let o = compare (4 * n) ((2 * (w / 2 ^ k) + 1) * 2 ^ k * ((2 * (w / 2 ^ k) + 1) * 2 ^ k)) in
+    let long : 2098 < size w = lt-of-not-le (λ (e : size w ≤ 2098). not-le-of-lt (lt-of-lt-of-le (size-lt w) (pow-mono e)) (root-ge (2 ^ 2098) (isqrt-is n) h)) in
+    let s : 52 + k < size w = omega arith in
+    let q : 2 ^ 52 ≤ w / 2 ^ k = le-div-iff-mul-le (pow-pos k) .1 (rw (pow-add 2 52 k) at (size-reaches w (52 + k) s)) in
+    let j : 2098 ≤ 52 + k = omega arith in
+    let r : 2 ^ 2098 ≤ 2 ^ 52 * 2 ^ k = rw (pow-add 2 52 k) at (pow-mono j) in
+    rootOf-is n ∙ units-beyond (nearest (w / 2 ^ k) o) k (le-trans r (mul-le-mul-right (2 ^ k) (le-trans q (nearest-ge (w / 2 ^ k) o))))

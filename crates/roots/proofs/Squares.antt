@@ -1,11 +1,12 @@
 -- Whole-number squares, and the whole part of a root. Nothing here is about floats. Assumes nothing.
-use mathlib.Core.Path.{_≡_}
-use Prim.Native.Nat.{ℕ, _+_, _-_, _*_, _≤_, _<_, zero-le}
-use native.Mathlib.Nat.{lt-of-not-le, not-le-of-lt, lt-of-le-of-lt, mul-le-mul, mul-le-mul-left, mul-lt-mul-of-pos-right, le-of-lt}
+use mathlib.Core.Path.{_≡_, refl}
+use Prim.Native.Nat.{ℕ, zero, suc, _+_, _-_, _*_, _^_, _≤_, _<_, zero-le}
+use native.Mathlib.Nat.{lt-of-not-le, not-le-of-lt, lt-of-le-of-lt, mul-le-mul, mul-le-mul-left, mul-lt-mul-of-pos-right, mul-pos, le-of-lt, pow-suc}
 use native.Mathlib.Omega.{arith}
 use mathlib.Core.Logic.{_⊎_, inl, inr}
 use mathlib.Core.Bool.{Bool, true, false, not}
 use lib.Dec.{T, ltb, ltb→lt, nltb→le}
+use lib.Pow.{pow-pos}
 use Rattle.roots.specs.Root.{IsRoot}
 
 pub side : (a b : ℕ) → (a < b) ⊎ (b ≤ a)
@@ -15,6 +16,17 @@ side a b = go (ltb a b) (ltb→lt a b) (nltb→le a b)
     go true y n = inl (y tt)
     go false y n = inr (n tt)
 
+-- the square of a power of two, and of x of them
+pub four-power : (k : ℕ) → 4 ^ k ≡ 2 ^ k * 2 ^ k
+four-power zero = refl
+four-power (suc k) = rw (pow-suc 4 k, pow-suc 2 k, four-power k) (omega arith)
+
+pub four-pos : (k : ℕ) → 0 < 4 ^ k
+four-pos k = rw (four-power k) (mul-pos (pow-pos k) (pow-pos k))
+
+pub square-of : (x k : ℕ) → x * 2 ^ k * (x * 2 ^ k) ≡ x * x * 4 ^ k
+square-of x k = rw (four-power k) (omega arith)
+
 -- ---- orders of numbers and of their squares
 pub sq-le : {a b : ℕ} → a ≤ b → a * a ≤ b * b
 sq-le h = mul-le-mul h h
@@ -22,7 +34,7 @@ sq-le h = mul-le-mul h h
 pub sq-lt : {a b : ℕ} → a < b → a * a < b * b
 sq-lt {a} {b} h = lt-of-le-of-lt (mul-le-mul-left a (le-of-lt h)) (mul-lt-mul-of-pos-right h (lt-of-le-of-lt zero-le h))
 
-lt-of-sq : {a b : ℕ} → a * a < b * b → a < b
+pub lt-of-sq : {a b : ℕ} → a * a < b * b → a < b
 lt-of-sq h = lt-of-not-le (λ g. not-le-of-lt h (sq-le g))
 
 -- ---- the whole part of a root: a is at most that where a * a ≤ n, and above it where n < a * a

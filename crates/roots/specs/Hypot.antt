@@ -1,10 +1,11 @@
--- hypot: √(x² + y²), as a list of float steps. A later definition may be correctly rounded, so callers cite laws (proofs/Laws.antt) and never the steps.
--- Every operation is rounded once (Words.antt of floats); `sqrtOf` is the correctly rounded root.
+-- hypot: √(x² + y²), correctly rounded, by the same `rootOf` as the square root. Callers cite laws (proofs/Laws.antt).
+-- In units of 2 ^ -1074 it is √(A² + B²) for numbers of A and B units: the root of a whole number, rounded once. specs/Nearest.antt says what that is with no algorithm.
 -- Definitions only. Assumes nothing.
-use mathlib.Core.Bool.{Bool, true, false, _||_, cond}
-use lib.Ieee.{Float, nan, inf, fin, lt}
-use Rattle.floats.specs.Words.{_⊕_, _⊗_, float, squareOf}
-use Rattle.roots.specs.Root.{sqrtOf}
+use Prim.Native.Nat.{ℕ, _+_, _*_, _/_, _^_}
+use mathlib.Core.Bool.{Bool, true, false}
+use lib.IntN.{ℤ}
+use lib.Ieee.{Float, nan, inf, fin, up, down}
+use Rattle.roots.specs.Root.{rootOf}
 
 -- one of the two infinities
 abbrev pub infinite : Float → Bool
@@ -12,29 +13,17 @@ infinite nan = false
 infinite (inf s) = true
 infinite (fin s m e) = false
 
--- 2 ^ -900, 2 ^ 600 and 2 ^ -600
-abbrev pub least : Float
-least = float 0x07b0000000000000
+-- how many units m * 2 ^ e has
+abbrev pub inUnits : ℕ → ℤ → ℕ
+inUnits m e = m * up e * 2 ^ 1074 / down e
 
-abbrev pub grow : Float
-grow = float 0x6570000000000000
-
-abbrev pub shrink : Float
-shrink = float 0x1a70000000000000
-
--- √((c x)² + (c y)²) * d, where c * d is 1
-abbrev pub scaledHypot : Float → Float → Float → Float → Float
-scaledHypot c d x y = sqrtOf (squareOf (c ⊗ x) ⊕ squareOf (c ⊗ y)) ⊗ d
-
--- s is x² + y².
--- 1. Where s is below 2 ^ -900, x and y are multiplied by 2 ^ 600 and the root by 2 ^ -600: the larger is then below 2 ^ 151, and no square underflows but 0.
--- 2. Where s is at least that and finite, the result is √s: nothing overflowed, and what a square lost by underflow is below 2 ^ -174 of s.
--- 3. Where x or y is infinite it is +infinity, beside a NaN too.
--- 4. Else s overflowed, or x or y is a NaN, and they are scaled the other way: the larger is then between 2 ^ -89 and 2 ^ 424, and what the other's square loses is below 2 ^ -896 of the sum.
--- So nothing overflows on the way where the value is in range, and no underflow shows. Measured error: 1.19 units in the last place at most (measure/roots/README.md).
+-- An infinity wins over all, a NaN too; else a NaN does (IEEE 754, 9.2.1).
 unfoldable pub hypotOf : Float → Float → Float
-hypotOf x y =
-    let s = squareOf x ⊕ squareOf y in
-    cond (lt s least) (scaledHypot grow shrink x y)
-    (cond (lt s (inf false)) (sqrtOf s)
-    (cond (infinite x || infinite y) (inf false) (scaledHypot shrink grow x y)))
+unfolding rootOf
+hypotOf (inf s) y = inf false
+hypotOf nan nan = nan
+hypotOf nan (inf t) = inf false
+hypotOf nan (fin t n d) = nan
+hypotOf (fin s m e) nan = nan
+hypotOf (fin s m e) (inf t) = inf false
+hypotOf (fin s m e) (fin t n d) = rootOf (inUnits m e * inUnits m e + inUnits n d * inUnits n d)

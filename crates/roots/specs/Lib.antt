@@ -1,4 +1,6 @@
 pub mod Root
+pub mod Patterns
 pub mod Lines
-pub mod Nearest
+pub mod Squares
 pub mod Hypot
+pub mod Nearest

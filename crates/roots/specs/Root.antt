@@ -48,7 +48,7 @@ pub record NearRoot (n c : ℕ) : Type 0 where
   pub low : c * c < n + c
   pub high : n ≤ c * c + c
 
--- r is the bits of a finite value, the one nearest to √n units
+-- r is the bits of the value nearest to √n units; they are no NaN's
 pub record RootBits (n r : ℕ) : Type 0 where
   pub value : ofBits binary64 r ≡ rootOf n
-  pub finite : r < 0x7ff0_0000_0000_0000
+  pub number : r ≤ 0x7ff0_0000_0000_0000

@@ -1,14 +1,19 @@
-// The square root, correctly rounded, and hypot. Both are total.
+// The square root and hypot, correctly rounded. Both are total.
 mod digits;
+mod exact;
 mod lines;
+mod near;
+mod sums;
 
 use digits::LEADING;
 use digits::root_of;
+use sums::sum_root;
 ghost use mathlib.Core.Path.{_≡_};
 ghost use Prim.Native.Nat.{_^_, _≤_, _<_};
-ghost use lib.Ieee.{binary64, toBits};
+ghost use lib.Ieee.{binary64, toBits, isNan};
+ghost use mathlib.Core.Bool.{true, _||_};
 ghost use Rattle.roots.specs.Root.{sqrtOf};
-ghost use Rattle.roots.specs.Hypot.{infinite, scaledHypot, hypotOf};
+ghost use Rattle.roots.specs.Hypot.{infinite, hypotOf};
 
 // 1021 * 2^52. A number with the field f is m * 2^(f + 1073) units of 2^-2148, and `root_of` has 52 less than that exponent above m.
 const LIFT: u64 = 0x3fd0_0000_0000_0000;
@@ -43,45 +48,33 @@ pub fn sqrt(x: f64) -> f64
     x
 }
 
-// 2^-900, 2^600 and 2^-600.
-const LEAST: f64 = 1.1830521861667747e-271; // 07b0000000000000
-
-const GROW: f64 = 4.149515568880993e180; // 6570000000000000
-
-const SHRINK: f64 = 2.409919865102884e-181; // 1a70000000000000
-
-// √(x² + y²), with no overflow or underflow on the way where the value is in range. The usual case is the first to be tested.
+// √(x² + y²): the value nearest to it, a tie to the even one, and infinity beyond the range. An infinity wins over a NaN.
 pub fn hypot(x: f64, y: f64) -> f64
     ensures { λ r. ⌜ r ≡ hypotOf x y ⌝ }
 {
-    let s = x * x + y * y;
-    if LEAST <= s {
-        if s < 1.0 / 0.0 {
-            return root_of_normal(s);
-        }
+    if x != x || y != y {
+        return beside_nan(x, y);
     }
-    if s < LEAST {
-        return scaled_hypot(GROW, SHRINK, x, y);
-    }
-    if is_infinite(x) {
+    let p = f64::to_bits(x) << 1;
+    let q = f64::to_bits(y) << 1;
+    let large = if p < q { q } else { p };
+    let small = if p < q { p } else { q };
+    f64::from_bits(sum_root(large, small))
+}
+
+// The same where one is a NaN.
+fn beside_nan(x: f64, y: f64) -> f64
+    requires { ⌜ (isNan x || isNan y) ≡ true ⌝ }
+    ensures { λ r. ⌜ r ≡ hypotOf x y ⌝ }
+{
+    if is_infinite(x) || is_infinite(y) {
         return 1.0 / 0.0;
     }
-    if is_infinite(y) {
-        return 1.0 / 0.0;
-    }
-    scaled_hypot(SHRINK, GROW, x, y)
+    0.0 / 0.0
 }
 
 fn is_infinite(x: f64) -> bool
     ensures { λ r. ⌜ r ≡ infinite x ⌝ }
 {
     x == 1.0 / 0.0 || x == -1.0 / 0.0
-}
-
-fn scaled_hypot(c: f64, d: f64, x: f64, y: f64) -> f64
-    ensures { λ r. ⌜ r ≡ scaledHypot c d x y ⌝ }
-{
-    let u = c * x;
-    let v = c * y;
-    sqrt(u * u + v * v) * d
 }

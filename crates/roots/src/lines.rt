@@ -1,87 +1,79 @@
-// Lines near 2^6 * √m, one for each of the 32 parts of m's range: 16 equal ones of 2^52 to 2^53, and 16 of 2^53 to 2^54. None is off by
-// more than 2^-13.9 of the root (measure/roots/lines.py, which makes them). That they are near enough is proved (proofs/LineLaws.antt).
+// Lines near 2^2 * √n, one for each of the 48 values of n's leading six digits. A line is one word: where it would be at 0, and, in its
+// last twelve digits, its slope, 2^39 times as large. None is off by more than 2^-13.9 of the root (measure/roots/lines.py, which makes
+// them). That they are near enough is proved (proofs/LineLaws.antt).
 ghost use mathlib.Core.Path.{_≡_};
-ghost use Prim.Native.Nat.{_<_};
-ghost use Rattle.roots.specs.Lines.{startOf, slopeOf};
+ghost use Prim.Native.Nat.{_≤_, _<_};
+ghost use Rattle.roots.specs.Lines.{lineOf};
 
-// Where the line would be at 0.
-pub fn start(part: u64) -> u64
-    requires { ⌜ part < 32 ⌝ }
-    ensures { λ r. ⌜ r ≡ startOf part ⌝ }
+// The line of the leading digits `part`. There are none below 16; that an answer is given spares the compiled code a test.
+pub fn line(part: u64) -> u64
+    requires { ⌜ (16 ≤ part) × (part < 64) ⌝ }
+    ensures { λ r. ⌜ r ≡ lineOf part ⌝ }
 {
     match part {
-        0 => 0x8204_1000,
-        1 => 0x85de_9000,
-        2 => 0x89aa_d000,
-        3 => 0x8d3a_a000,
-        4 => 0x90d1_d000,
-        5 => 0x946d_b000,
-        6 => 0x97b1_9000,
-        7 => 0x9b1b_2000,
-        8 => 0x9e4a_6000,
-        9 => 0xa19c_1000,
-        10 => 0xa4a7_d000,
-        11 => 0xa7d1_9000,
-        12 => 0xaae1_d000,
-        13 => 0xadd4_3000,
-        14 => 0xb0a3_f000,
-        15 => 0xb38b_7000,
-        16 => 0xb7cf_6000,
-        17 => 0xbd63_a000,
-        18 => 0xc2bc_f000,
-        19 => 0xc7c9_d000,
-        20 => 0xccc8_a000,
-        21 => 0xd1b3_2000,
-        22 => 0xd681_8000,
-        23 => 0xdb89_6000,
-        24 => 0xe00a_d000,
-        25 => 0xe455_f000,
-        26 => 0xe8cc_6000,
-        27 => 0xed70_2000,
-        28 => 0xf15f_b000,
-        29 => 0xf5e7_6000,
-        30 => 0xfa20_9000,
-        _ => 0xfe00_0000,
-    }
-}
-
-// Its slope, 2^31 times as large.
-pub fn slope(part: u64) -> u64
-    requires { ⌜ part < 32 ⌝ }
-    ensures { λ r. ⌜ r ≡ slopeOf part ⌝ }
-{
-    match part {
-        0 => 1008,
-        1 => 979,
-        2 => 952,
-        3 => 928,
-        4 => 905,
-        5 => 883,
-        6 => 864,
-        7 => 845,
-        8 => 828,
-        9 => 811,
-        10 => 796,
-        11 => 781,
-        12 => 767,
-        13 => 754,
-        14 => 742,
-        15 => 730,
-        16 => 713,
-        17 => 692,
-        18 => 673,
-        19 => 656,
-        20 => 640,
-        21 => 625,
-        22 => 611,
-        23 => 597,
-        24 => 585,
-        25 => 574,
-        26 => 563,
-        27 => 552,
-        28 => 543,
-        29 => 533,
-        30 => 524,
-        _ => 516,
+        0 => 0x8204_13f0,
+        1 => 0x8204_13f0,
+        2 => 0x8204_13f0,
+        3 => 0x8204_13f0,
+        4 => 0x8204_13f0,
+        5 => 0x8204_13f0,
+        6 => 0x8204_13f0,
+        7 => 0x8204_13f0,
+        8 => 0x8204_13f0,
+        9 => 0x8204_13f0,
+        10 => 0x8204_13f0,
+        11 => 0x8204_13f0,
+        12 => 0x8204_13f0,
+        13 => 0x8204_13f0,
+        14 => 0x8204_13f0,
+        15 => 0x8204_13f0,
+        16 => 0x8204_13f0,
+        17 => 0x85de_93d3,
+        18 => 0x89aa_d3b8,
+        19 => 0x8d3a_a3a0,
+        20 => 0x90d1_d389,
+        21 => 0x946d_b373,
+        22 => 0x97b1_9360,
+        23 => 0x9b1b_234d,
+        24 => 0x9e4a_633c,
+        25 => 0xa19c_132b,
+        26 => 0xa4a7_d31c,
+        27 => 0xa7d1_930d,
+        28 => 0xaae1_d2ff,
+        29 => 0xadd4_32f2,
+        30 => 0xb0a3_f2e6,
+        31 => 0xb38b_72da,
+        32 => 0xb64a_92cf,
+        33 => 0xb91f_d2c4,
+        34 => 0xbc0b_c2b9,
+        35 => 0xbec8_82af,
+        36 => 0xc151_22a6,
+        37 => 0xc3ea_f29d,
+        38 => 0xc696_e294,
+        39 => 0xc906_b28c,
+        40 => 0xcb86_0284,
+        41 => 0xce15_827c,
+        42 => 0xd0b5_9274,
+        43 => 0xd310_026d,
+        44 => 0xd578_1266,
+        45 => 0xd7ee_325f,
+        46 => 0xda16_0259,
+        47 => 0xdca8_0252,
+        48 => 0xdee8_824c,
+        49 => 0xe134_d246,
+        50 => 0xe38d_5240,
+        51 => 0xe58b_823b,
+        52 => 0xe7fb_9235,
+        53 => 0xea0e_0230,
+        54 => 0xec29_b22b,
+        55 => 0xee4f_6226,
+        56 => 0xf07f_2221,
+        57 => 0xf2b9_321c,
+        58 => 0xf488_c218,
+        59 => 0xf6d6_7213,
+        60 => 0xf8b5_e20f,
+        61 => 0xfb17_d20a,
+        62 => 0xfd08_5206,
+        _ => 0xff00_0202,
     }
 }

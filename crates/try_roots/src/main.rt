@@ -1,15 +1,12 @@
-// Replays the stored vectors of measure/roots/vectors.py: square roots to the bit, and pairs whose hypot may be one unit in the last
-// place off the correctly rounded value. Prints what fails, and the counts. The input is words of 8 bytes, the least byte first: how
-// many roots, how many pairs, then a number and its root, and two numbers and their hypot.
+// Replays the stored vectors of measure/roots/vectors.py: square roots and hypots, each to the bit. Prints what is not right, and the
+// counts. The input is words of 8 bytes, the least byte first: how many roots, how many pairs, then a number and its root, and two
+// numbers and their hypot.
 use floats::bits::bits_of;
 use floats::bits::little_endian;
 use floats::bits::of_bits;
 use libc::STDIN_FILENO;
 use libc::STDOUT_FILENO;
 ghost use Prim.Native.Nat.{_^_, _<_};
-
-// Infinity's pattern: what is below it is finite, and no two patterns of it and above are near.
-const INFINITY: u64 = 0x7ff0_0000_0000_0000;
 
 // Word k of the input, and 0 past its end.
 fn word(s: &[u8], k: usize) -> u64 {
@@ -18,26 +15,6 @@ fn word(s: &[u8], k: usize) -> u64 {
     } else {
         0
     }
-}
-
-// How far two patterns are apart: 0 where they are one, 1 where they are those of finite neighbours, else 2.
-fn distance(a: u64, b: u64) -> u64 {
-    if a == b {
-        return 0;
-    }
-    if a >= INFINITY {
-        return 2;
-    }
-    if b >= INFINITY {
-        return 2;
-    }
-    if a + 1 == b {
-        return 1;
-    }
-    if b + 1 == a {
-        return 1;
-    }
-    2
 }
 
 fn print_wrong(name: &[u8], x: u64, y: u64, got: u64, want: u64) {
@@ -71,19 +48,19 @@ fn root_is_right(s: &[u8], k: usize) -> bool
     false
 }
 
-// The distance of the hypot at word k.
-fn pair_distance(s: &[u8], k: usize) -> u64
+// Whether the hypot at word k is right.
+fn pair_is_right(s: &[u8], k: usize) -> bool
     requires { ⌜ k < 2 ^ 32 ⌝ }
 {
     let x = word(s, k);
     let y = word(s, k + 1);
     let want = word(s, k + 2);
     let got = bits_of(roots::hypot(of_bits(x), of_bits(y)));
-    let far = distance(got, want);
-    if far > 1 {
-        print_wrong(b"hypot ", x, y, got, want);
+    if got == want {
+        return true;
     }
-    far
+    print_wrong(b"hypot ", x, y, got, want);
+    false
 }
 
 // How many of the roots from word 2 on are right.
@@ -99,38 +76,28 @@ fn count_roots(s: &[u8], count: usize) -> usize
     right
 }
 
-// How many of the pairs from word `from` on are right to the bit, and how many one unit off.
-struct Score {
-    right: usize,
-    near: usize,
-}
-
-fn score_pairs(s: &[u8], from: usize, count: usize) -> Score
+// How many of the pairs from word `from` on are right.
+fn count_pairs(s: &[u8], from: usize, count: usize) -> usize
     requires { ⌜ (from < 2 ^ 20) × (count < 2 ^ 16) ⌝ }
 {
     let mut right: usize = 0;
-    let mut near: usize = 0;
     for i in 0..count {
-        let far = pair_distance(s, from + 3 * i);
-        if far == 0 {
+        if pair_is_right(s, from + 3 * i) {
             right = right + 1;
-        } else if far == 1 {
-            near = near + 1;
         }
     }
-    Score { right, near }
+    right
 }
 
 fn replay(s: &[u8], roots: usize, pairs: usize)
     requires { ⌜ (roots < 2 ^ 16) × (pairs < 2 ^ 16) ⌝ }
 {
-    let right = count_roots(s, roots);
-    let score = score_pairs(s, 2 + 2 * roots, pairs);
+    let right_roots = count_roots(s, roots);
+    let right_pairs = count_pairs(s, 2 + 2 * roots, pairs);
     print_count(b"roots: ", roots);
-    print_count(b", to the bit ", right);
+    print_count(b", to the bit ", right_roots);
     print_count(b"\npairs: ", pairs);
-    print_count(b", to the bit ", score.right);
-    print_count(b", one unit off ", score.near);
+    print_count(b", to the bit ", right_pairs);
     io::write_all(STDOUT_FILENO, b"\n");
 }
 

@@ -6,6 +6,7 @@ use Rattle.floats.specs.Signs.{absOf}
 use Rattle.floats.specs.Search.{firstWhere}
 use Rattle.floats.specs.declared.search.Found.the-variants.{Nothing}
 use Rattle.floats.proofs.FirstLaws.{first-at, first-not}
+use Rattle.ql.proofs.SizeLaws.{sizeOf, le-sizes}
 use Rattle.ql.specs.Rotation.{negligible}
 use Rattle.ql.specs.Sweep.{blockEnd, endAt}
 use Prim.Native.Nat.{ℕ, zero, suc, _≤_, _<_, _-_, _*_, _+_}
@@ -19,16 +20,14 @@ use Rattle.ql.proofs.block_end.Statement.{statement}
 use Rattle.ql.proofs.block_end.Tie as tie
 use Rattle.ql.proofs.block_end.Reads as reads
 use Rattle.ql.proofs.block_end.Lts as lts
-use Rattle.floats.proofs.signs.abs.Reads as abs-reads
 use Rattle.ql.proofs.is_negligible.Reads as is-negligible-reads
 
 -- what the test says, from the sizes at hand
-said : (r : Bool) (e a b above below : Float) → r ≡ le (absOf e) (float 0x3cb0000000000000 ⊗ (above ⊕ below)) → above ≡ absOf a → below ≡ absOf b → negligible e a b ≡ r
-unfolding negligible
-said r e a b above below q x y = sym (rw (x, y) at q)
+said : (r : Bool) (e a b above below : Float) → r ≡ le (absOf e) (float 0x3cb0000000000000 ⊗ (above ⊕ below)) → above ≡ sizeOf a → below ≡ sizeOf b → negligible e a b ≡ r
+said r e a b above below q x y = sym ((rw (x, y) at q) ∙ le-sizes e a b)
 
 abbrev Inv-loop : tie.InvT-loop
-Inv-loop d e n l most above₀ t₀ above t = (t ≤ most) × (above ≡ absOf (d ‼ (l + t))) × (firstWhere t (λ t. negligible (e ‼ (l + t)) (d ‼ (l + t)) (d ‼ (l + t + 1))) ≡ Nothing)
+Inv-loop d e n l most above₀ t₀ above t = (t ≤ most) × (above ≡ sizeOf (d ‼ (l + t))) × (firstWhere t (λ t. negligible (e ‼ (l + t)) (d ‼ (l + t)) (d ‼ (l + t + 1))) ≡ Nothing)
 
 abbrev μ-loop : tie.MeasureT-loop
 μ-loop d e n l most above₀ t₀ above t = most - t
@@ -39,33 +38,33 @@ sub-most c = search needs
 sub-most-2 : tie.Need-sub-most-2 Inv-loop μ-loop
 sub-most-2 c = search needs
 
-mul-abs : tie.Need-mul-abs Inv-loop μ-loop
-mul-abs c = search needs
+mul-size : tie.Need-mul-size Inv-loop μ-loop
+mul-size c = search needs
 
-shared-slice-read-abs : tie.Need-shared-slice-read-abs Inv-loop μ-loop
-shared-slice-read-abs c = search needs
+shared-slice-read-size : tie.Need-shared-slice-read-size Inv-loop μ-loop
+shared-slice-read-size c = search needs
 
-abs-requires : tie.Need-abs-requires Inv-loop μ-loop
-abs-requires c κs = search needs
+size-requires : tie.Need-size-requires Inv-loop μ-loop
+size-requires c κs = search needs
 
 loop-holds : tie.Need-loop-holds Inv-loop μ-loop
 unfolding firstWhere
-loop-holds c = (omega arith, c .abs .ensures ∙ ap (λ (i : ℕ). absOf (c .before .before .before .before .args .d .now ‼ i)) (omega arith), refl)
+loop-holds c = (omega arith, c .size .ensures ∙ ap (λ (i : ℕ). sizeOf (c .before .before .before .before .args .d .now ‼ i)) (omega arith), refl)
 
 add-m : tie.Need-add-m Inv-loop μ-loop
 add-m c = search needs
 
-add-abs : tie.Need-add-abs Inv-loop μ-loop
-add-abs c = search needs
+add-size : tie.Need-add-size Inv-loop μ-loop
+add-size c = search needs
 
-mul-abs-2 : tie.Need-mul-abs-2 Inv-loop μ-loop
-mul-abs-2 c = search needs
+mul-size-2 : tie.Need-mul-size-2 Inv-loop μ-loop
+mul-size-2 c = search needs
 
-shared-slice-read-abs-2 : tie.Need-shared-slice-read-abs-2 Inv-loop μ-loop
-shared-slice-read-abs-2 c = search needs
+shared-slice-read-size-2 : tie.Need-shared-slice-read-size-2 Inv-loop μ-loop
+shared-slice-read-size-2 c = search needs
 
-abs-requires-2 : tie.Need-abs-requires-2 Inv-loop μ-loop
-abs-requires-2 c κs = search needs
+size-requires-2 : tie.Need-size-requires-2 Inv-loop μ-loop
+size-requires-2 c κs = search needs
 
 mul-is-negligible : tie.Need-mul-is-negligible Inv-loop μ-loop
 mul-is-negligible c = search needs
@@ -81,8 +80,8 @@ unfolding blockEnd
 returns c =
     let args = c .before .before .before .before .before .before .before .before .before .before .before .args in
     let loop = c .before .before .before .before .before .before .loop in
-    let abs2 = c .before .before .before .abs2 in
-    ((omega arith, omega arith), sym (ap (endAt (args .n) (args .l)) (first-at _ {n = args .n - 1 - args .l} {i = loop .t} (omega arith) (loop .inv .2) ((said _ _ _ _ _ _ (c .before .is-negligible .ensures) (loop .inv .1) (abs2 .ensures)) ∙ c .if1 .taken))))
+    let size2 = c .before .before .before .size2 in
+    ((omega arith, omega arith), sym (ap (endAt (args .n) (args .l)) (first-at _ {n = args .n - 1 - args .l} {i = loop .t} (omega arith) (loop .inv .2) ((said _ _ _ _ _ _ (c .before .is-negligible .ensures) (loop .inv .1) (size2 .ensures)) ∙ c .if1 .taken))))
 
 add-t : tie.Need-add-t Inv-loop μ-loop
 add-t c = search needs
@@ -94,8 +93,8 @@ loop-again : tie.Need-loop-again Inv-loop μ-loop
 loop-again c =
     let args = c .before .before .before .before .before .before .before .before .before .before .before .args in
     let loop = c .before .before .before .before .before .before .loop in
-    let abs2 = c .before .before .before .abs2 in
-    (omega arith, abs2 .ensures ∙ ap (λ (i : ℕ). absOf (args .d .now ‼ i)) (omega arith), first-not _ _ (loop .inv .2) ((said _ _ _ _ _ _ (c .before .is-negligible .ensures) (loop .inv .1) (abs2 .ensures)) ∙ c .if1 .left))
+    let size2 = c .before .before .before .size2 in
+    (omega arith, size2 .ensures ∙ ap (λ (i : ℕ). sizeOf (args .d .now ‼ i)) (omega arith), first-not _ _ (loop .inv .2) ((said _ _ _ _ _ _ (c .before .is-negligible .ensures) (loop .inv .1) (size2 .ensures)) ∙ c .if1 .left))
 
 sub-result : tie.Need-sub-result Inv-loop μ-loop
 sub-result c = search needs
@@ -112,15 +111,15 @@ block-end-spec =
     μ-loop
     sub-most
     sub-most-2
-    mul-abs
-    shared-slice-read-abs
-    abs-requires
+    mul-size
+    shared-slice-read-size
+    size-requires
     loop-holds
     add-m
-    add-abs
-    mul-abs-2
-    shared-slice-read-abs-2
-    abs-requires-2
+    add-size
+    mul-size-2
+    shared-slice-read-size-2
+    size-requires-2
     mul-is-negligible
     shared-slice-read-is-negligible
     is-negligible-requires

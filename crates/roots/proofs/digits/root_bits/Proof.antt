@@ -3,7 +3,6 @@ use mathlib.Core.Path.{_≡_, ap}
 use mathlib.Core.Logic.{_⊎_, inl, inr}
 use Prim.Native.Nat.{ℕ, _+_, _*_, _/_, _%_, _^_, _≤_, _<_}
 use native.Mathlib.Omega.{arith}
-use borrow.Author.Tests.{lt-ltb, le-ltb}
 use Rattle.roots.proofs.Assemble.{shared, c-below, written}
 use Rattle.roots.proofs.digits.root_bits.Statement.{statement}
 use Rattle.roots.proofs.digits.root_bits.Tie as tie
@@ -26,12 +25,7 @@ add-root : tie.Need-add-root
 add-root c = elim (ways (c .before)) [ inl e ↦ omega (arith, e) | inr e ↦ omega (arith, e) ]
 
 root-requires : tie.Need-root-requires
-root-requires c κs =
-    let d = m (c .before) in
-    elim (ways (c .before)) [
-      | inl e ↦ record { from = omega (arith, e); below = omega (arith, e); part = rw (lt-ltb d (2 ^ 53) (omega (arith, e))) (omega (arith, e)) }
-      | inr e ↦ record { from = omega (arith, e); below = omega (arith, e); part = rw (le-ltb d (2 ^ 53) (omega (arith, e))) (omega (arith, e)) }
-    ]
+root-requires c κs = elim (ways (c .before)) [ inl e ↦ (omega (arith, e), omega (arith, e)) | inr e ↦ (omega (arith, e), omega (arith, e)) ]
 
 add-result : tie.Need-add-result
 add-result c =
