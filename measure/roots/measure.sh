@@ -1,6 +1,6 @@
 #!/bin/sh
-# Measures sqrt and hypot of crates/roots, as they stand in src/, against the platform's square root and MPFR, and prints the table of
-# README.md. Usage: measure.sh [COUNT]   (patterns, and pairs a family; 1000000 unless said: about twenty seconds)
+# Compares sqrt and hypot of crates/roots, as they stand in src/, with the platform's square root and MPFR, and prints the table of
+# docs/ACCURACY.md. Usage: measure.sh [COUNT]   (patterns, and pairs a family; 1000000 unless said: half a minute)
 # Needs rustc, a C compiler, MPFR with its header (Debian: libmpfr-dev) and python3. Writes below target/ only.
 set -eu
 count=${1:-1000000}

@@ -1,4 +1,4 @@
--- The bits that `subnormal`, `careful` and `sum_root` give, from the leading digits of a sum of squares (Window.antt). Each is a case of `sum-steps`.
+-- The bits that `subnormal`, `careful` and `sum_root` give, from what `root_below` says of a sum of squares. Each is a case of `sum-steps`.
 -- `careful` and `sum_root` take the digits of two numbers as their patterns have them. `subnormal` takes them z places up, and the digits of the root as many places down again. Assumes nothing.
 use mathlib.Core.Path.{_≡_, refl, sym, ap, _∙_}
 use mathlib.Core.Logic.{_⊎_, inl, inr}
@@ -10,11 +10,9 @@ use lib.Pow.{pow-add, pow-pos, shr-le}
 use lib.Ieee.Fits.{nearest-le}
 use Rattle.roots.specs.Root.{RootBits}
 use Rattle.roots.specs.Patterns.{top, dropped, Fields, squareSum}
-use Rattle.roots.specs.Lines.{NearBelow}
-use Rattle.roots.specs.Squares.{squares, Leading, roundedAt}
+use Rattle.roots.specs.Squares.{squares, roundedAt, RootBelow}
 use Rattle.roots.proofs.Squares.{side, four-power, sq-le}
 use Rattle.roots.proofs.Steps.{sum-steps, pattern-sum}
-use Rattle.roots.proofs.Window.{places, taken, window, root-from, root-below, sum-from, root-digits, goes-up, goes-down}
 use Rattle.roots.proofs.Cases.{Shift}
 
 pub rounded-most : (m w d c k : ℕ) → roundedAt m w d c k ≤ suc c
@@ -29,20 +27,20 @@ field-sum {p} {q} {m} {w} {e} {f} d x y apart =
     let h : dropped p - dropped q ≡ d = omega (arith, x .exponent, y .exponent) in
     pattern-sum p q (omega (arith, x .exponent, y .exponent)) ∙ rw (i, j, h, g)
 
-pub by-fields : {p q m w e f d s c base test : ℕ} → Fields p m e → Fields q w f → f + d ≡ e → Leading m w d s → NearBelow (taken s) c base test → RootBits (squareSum p q) (min ((e + places s) * 2 ^ 52 + roundedAt m w d c (places s)) top)
-by-fields {f} {d} {s} x y apart lead near = rw (field-sum d x y apart) (rw apart at (sum-steps _ _ d f _ (places s) (root-from lead near) (root-below lead near) (inr (sum-from lead near)) (root-digits lead near)))
+pub by-fields : {p q m w e f d c k base test : ℕ} → Fields p m e → Fields q w f → f + d ≡ e → RootBelow m w d c k base test → RootBits (squareSum p q) (min ((e + k) * 2 ^ 52 + roundedAt m w d c k) top)
+by-fields {f} {d} {k} x y apart r = rw (field-sum d x y apart) (rw apart at (sum-steps _ _ d f _ k (r .low) (r .high) (inr (r .from)) (r .few)))
 
 -- a number that is not subnormal
 normal-fields : (b : ℕ) → 2 ^ 52 ≤ b → Fields b (b % 2 ^ 52 + 2 ^ 52) (b / 2 ^ 52 - 1)
 normal-fields b h = record { digits = omega arith; exponent = refl; below = omega arith; normal = λ g. omega arith }
 
 -- two such numbers, where the root is one too and the leading digits tell which way it goes
-pub told : {d s c base test : ℕ} (p q up : ℕ) → 2 ^ 52 ≤ q → q / 2 ^ 52 + d ≡ p / 2 ^ 52 → p / 2 ^ 52 + places s ≤ 2046 → Leading (p % 2 ^ 52 + 2 ^ 52) (q % 2 ^ 52 + 2 ^ 52) d s → NearBelow (taken s) c base test → ((base < test) × (up ≡ 1)) ⊎ ((test + 3 * 2 ^ 44 ≤ base) × (up ≡ 0)) → RootBits (squareSum p q) ((p / 2 ^ 52 + places s - 1) * 2 ^ 52 + c + up)
-told {d} {s} {c} p q up normal apart range lead near way =
-    let r = roundedAt (p % 2 ^ 52 + 2 ^ 52) (q % 2 ^ 52 + 2 ^ 52) d c (places s) in
-    let goes : (r ≡ c + up) × (up ≤ 1) = elim way [ inl h ↦ (omega (arith, h, goes-up lead near (h .0)), omega (arith, h)) | inr h ↦ (omega (arith, h, goes-down lead near (h .0)), omega (arith, h)) ] in
-    let e : min ((p / 2 ^ 52 - 1 + places s) * 2 ^ 52 + r) top ≡ (p / 2 ^ 52 + places s - 1) * 2 ^ 52 + c + up = omega (arith, goes, root-digits lead near) in
-    rw e at (by-fields (normal-fields p (omega arith)) (normal-fields q normal) (omega arith) lead near)
+pub told : {d c k base test : ℕ} (p q up : ℕ) → 2 ^ 52 ≤ q → q / 2 ^ 52 + d ≡ p / 2 ^ 52 → p / 2 ^ 52 + k ≤ 2046 → RootBelow (p % 2 ^ 52 + 2 ^ 52) (q % 2 ^ 52 + 2 ^ 52) d c k base test → ((base < test) × (up ≡ 1)) ⊎ ((test + 3 * 2 ^ 44 ≤ base) × (up ≡ 0)) → RootBits (squareSum p q) ((p / 2 ^ 52 + k - 1) * 2 ^ 52 + c + up)
+told {d} {c} {k} p q up normal apart range below way =
+    let r = roundedAt (p % 2 ^ 52 + 2 ^ 52) (q % 2 ^ 52 + 2 ^ 52) d c k in
+    let goes : (r ≡ c + up) × (up ≤ 1) = elim way [ inl h ↦ (omega (arith, h, below .up (h .0)), omega (arith, h)) | inr h ↦ (omega (arith, h, below .down (h .0)), omega (arith, h)) ] in
+    let e : min ((p / 2 ^ 52 - 1 + k) * 2 ^ 52 + r) top ≡ (p / 2 ^ 52 + k - 1) * 2 ^ 52 + c + up = omega (arith, goes, below .few) in
+    rw e at (by-fields (normal-fields p (omega arith)) (normal-fields q normal) (omega arith) below)
 
 -- ---- two subnormal numbers. C is the root of their sum z places up, in steps of K, where J * K is 2 ^ z; and c is C in steps of J
 module _ (p q J K C c : ℕ) (some : 0 < J) (pos : 0 < J * K) (least : c * J ≤ C) (most : C < (c + 1) * J) where
@@ -76,25 +74,24 @@ module _ (p q z : ℕ) (order : q ≤ p) (up : Shift p z) where
       whole : (b : ℕ) → b < 2 ^ 52 → Fields b b 0
       whole b h = record { digits = omega arith; exponent = omega arith; below = omega arith; normal = λ g. omega arith }
 
-  pub subnormal-bits : {s C base test : ℕ} → p < 2 ^ 52 → Leading (p * 2 ^ z % 2 ^ 64) (q * 2 ^ z % 2 ^ 64) 0 s → NearBelow (taken s) C base test → RootBits (squareSum p q) (roundedAt p q 0 (C / 2 ^ (z - places s)) 0)
-  subnormal-bits {s} {C} small read near =
-      let k = places s in
+  pub subnormal-bits : {C k base test : ℕ} → p < 2 ^ 52 → RootBelow (p * 2 ^ z % 2 ^ 64) (q * 2 ^ z % 2 ^ 64) 0 C k base test → RootBits (squareSum p q) (roundedAt p q 0 (C / 2 ^ (z - k)) 0)
+  subnormal-bits {C} {k} {base} {test} small read =
       let J = 2 ^ (z - k) in
       let K = 2 ^ k in
       let c = C / J in
       let r = roundedAt p q 0 c 0 in
       let some : 0 < J = pow-pos (z - k) in
       let pos : 0 < J * K = mul-pos some (pow-pos k) in
-      let lead : Leading (p * 2 ^ z) (q * 2 ^ z) 0 s = rw (up .same, smaller-same) at read in
-      let i : z ≡ z - k + k = omega (arith, room small up, window lead .one) in
+      let below : RootBelow (p * 2 ^ z) (q * 2 ^ z) 0 C k base test = rw (up .same, smaller-same) at read in
+      let i : z ≡ z - k + k = omega (arith, room small up, below .one) in
       let e : 2 ^ z ≡ J * K = ap (λ (x : ℕ). 2 ^ x) i ∙ pow-add 2 (z - k) k in
       let o : 0 + k ≡ k = omega arith in
       let f : 4 ^ (0 + k) ≡ K * K = rw o (four-power k) in
       let least : c * J ≤ C = omega (arith, div-add-mod' C J) in
       let most : C < (c + 1) * J = omega (arith, div-add-mod' C J, mod-lt C some) in
-      let lo : c * c ≤ p * p + q * q = down-from p q J K C c some pos least most (omega (arith, rw (e, f) at (root-from lead near))) in
-      let hi : 4 * (p * p + q * q) < (2 * c + 3) * (2 * c + 3) = down-below p q J K C c some pos least most (omega (arith, rw (e, f) at (root-below lead near))) in
-      let few : c < 2 ^ 53 = omega (arith, shr-le C (z - k), root-digits lead near) in
+      let lo : c * c ≤ p * p + q * q = down-from p q J K C c some pos least most (omega (arith, rw (e, f) at (below .low))) in
+      let hi : 4 * (p * p + q * q) < (2 * c + 3) * (2 * c + 3) = down-below p q J K C c some pos least most (omega (arith, rw (e, f) at (below .high))) in
+      let few : c < 2 ^ 53 = omega (arith, shr-le C (z - k), below .few) in
       let g : min ((0 + 0 + 0) * 2 ^ 52 + r) top ≡ r = omega (arith, rounded-most p q 0 c 0) in
       rw (subnormal-sum small) (rw g at (sum-steps p q 0 0 c 0 (omega arith) (omega arith) (inl refl) few))
 

@@ -1,4 +1,4 @@
--- The root c of the leading digits s of a sum of squares M, as `near` gives it: where √M lies beside c and its neighbours, and that the two tests of `sum_root` are right.
+-- The root c of the leading digits s of a sum of squares M, as `near` gives it: where √M lies beside c and its neighbours, and that the two tests of `sum_root` are right (`root-below`).
 -- `near` takes s, or s / 4 where s has a digit more. So M lies from n to below n + 3 units of 2 ^ 44 * W, for the number n that it takes and W = 4 ^ (d + places s), and `NearBelow` says how these two compare with c², c² + c and c² + 3 c + 2. Nothing here is about floats. Assumes nothing.
 use mathlib.Core.Path.{_≡_}
 use mathlib.Core.Logic.{inl, inr}
@@ -7,7 +7,7 @@ use native.Mathlib.Nat.{le-trans, lt-of-lt-of-le, mul-le-mul-right}
 use native.Mathlib.Omega.{arith}
 use lib.Pow.{pow-add}
 use Rattle.roots.specs.Lines.{NearBelow}
-use Rattle.roots.specs.Squares.{squares, Leading, roundedAt}
+use Rattle.roots.specs.Squares.{squares, Leading, roundedAt, RootBelow}
 use Rattle.roots.proofs.Squares.{side, four-pos}
 use Rattle.roots.proofs.Division.{digits-below}
 use Rattle.roots.proofs.Rounding.{decided}
@@ -59,27 +59,26 @@ module _ {m w d s c base test : ℕ} (lead : Leading m w d s) (near : NearBelow 
   most : M < (n + 3) * 2 ^ 44 * W
   most = lt-of-lt-of-le (lead .high) (rw wide (omega (arith, mul-le-mul-right (2 ^ 44 * 4 ^ d) (window lead .high))))
 
-  pub root-from : c * c * 4 ^ (d + places s) ≤ squares m w d
-  root-from = le-trans (mul-le-mul-right W (near .low)) least
-
-  pub root-below : 4 * squares m w d < (2 * c + 3) * (2 * c + 3) * 4 ^ (d + places s)
-  root-below = omega (arith, most, mul-le-mul-right W (near .high))
-
-  pub sum-from : 2 ^ 104 * 4 ^ (d + places s) ≤ squares m w d
-  sum-from = le-trans (omega (arith, mul-le-mul-right (2 ^ 44 * W) (window lead .from))) least
-
-  pub root-digits : c < 2 ^ 53
-  root-digits = digits-below (window lead .below) near
-
   -- M is above the middle of c and c + 1
-  pub goes-up : base < test → roundedAt m w d c (places s) ≡ suc c
+  goes-up : base < test → roundedAt m w d c (places s) ≡ suc c
   goes-up h =
       let g : c * c + c + 1 ≤ n * 2 ^ 44 = omega (arith, near .apart) in
       let some : 0 < W = four-pos (d + places s) in
       rw (decided (4 * M) ((2 * c + 1) * (2 * c + 1) * W) Ordering·gt (omega (arith, least, mul-le-mul-right W g)))
 
   -- M is below it, though it be 3 units more than s says
-  pub goes-down : test + 3 * 2 ^ 44 ≤ base → roundedAt m w d c (places s) ≡ c
+  goes-down : test + 3 * 2 ^ 44 ≤ base → roundedAt m w d c (places s) ≡ c
   goes-down h =
       let g : (n + 3) * 2 ^ 44 ≤ c * c + c = omega (arith, near .apart) in
       rw (decided (4 * M) ((2 * c + 1) * (2 * c + 1) * W) Ordering·lt (omega (arith, most, mul-le-mul-right W g)))
+
+  pub root-below : RootBelow m w d c (places s) base test
+  root-below = record {
+    one = window lead .one;
+    few = digits-below (window lead .below) near;
+    from = le-trans (omega (arith, mul-le-mul-right (2 ^ 44 * W) (window lead .from))) least;
+    low = le-trans (mul-le-mul-right W (near .low)) least;
+    high = omega (arith, most, mul-le-mul-right W (near .high));
+    up = goes-up;
+    down = goes-down;
+  }

@@ -5,7 +5,6 @@ use native.Mathlib.Omega.{arith}
 use lib.Count.{leadingZeros}
 use lib.Pow.{shr-le}
 use Rattle.roots.proofs.Cases.{Shift, shift}
-use Rattle.roots.proofs.Window.{places, window, root-digits}
 use Rattle.roots.proofs.SumBits.{room, smaller-below, subnormal-bits, zeros}
 use Rattle.roots.proofs.sums.subnormal.Statement.{statement}
 use Rattle.roots.proofs.sums.subnormal.Tie as tie
@@ -27,35 +26,28 @@ module _ (c : tie.Else1) where
 returns : tie.Need-returns
 returns c = zeros (c .before .args .p) (c .before .args .q) (c .if1 .taken) (c .before .pre .0)
 
-leading-requires : tie.Need-leading-requires
-leading-requires c κs = (up c .from, up c .below, smaller-below (p c) (q c) (z c) (c .before .pre .0) (up c), omega arith)
+root-below-requires : tie.Need-root-below-requires
+root-below-requires c κs = (up c .from, up c .below, smaller-below (p c) (q c) (z c) (c .before .pre .0) (up c), omega arith)
 
 sub-rounded : tie.Need-sub-rounded
-sub-rounded c =
-    let l = c .before in
-    omega (arith, window (l .leading .ensures) .one, room (l .before .before .pre .1) (up (l .before)))
+sub-rounded c = let r = c .before in omega (arith, r .root-below .ensures .one, room (r .before .before .pre .1) (up (r .before)))
 
 rounded-requires : tie.Need-rounded-requires
 rounded-requires c κs =
-    let n = c .before in
-    let l = n .before in
-    let C = n .near .result .c in
-    let j = z (l .before) - places (l .leading .result) in
-    let few : C / 2 ^ j < 2 ^ 53 = omega (arith, shr-le C j, root-digits (l .leading .ensures) (n .near .ensures)) in
+    let r = c .before .before in
+    let C = r .root-below .result .c in
+    let j = z (r .before) - r .root-below .result .k in
+    let few : C / 2 ^ j < 2 ^ 53 = omega (arith, shr-le C j, r .root-below .ensures .few) in
     (omega arith, omega arith, omega arith, few, omega arith)
 
 returns-2 : tie.Need-returns-2
 returns-2 c =
-    let n = c .before .before in
-    let l = n .before in
-    let b = l .before in
-    rw (c .rounded .ensures) (subnormal-bits (p b) (q b) (z b) (b .before .pre .0) (up b) (b .before .pre .1) (l .leading .ensures) (n .near .ensures))
+    let r = c .before .before .before in
+    let b = r .before in
+    rw (c .rounded .ensures) (subnormal-bits (p b) (q b) (z b) (b .before .pre .0) (up b) (b .before .pre .1) (r .root-below .ensures))
 
 pub subnormal-spec : {M : Type 1} → statement M
 subnormal-spec =
     tie.close
-    (tie.spec returns (λ c. up c .zeros) (λ c. omega (arith, up c .most)) (λ c. omega (arith, up c .most))
-    (λ c. omega (arith, up c .most)) (λ c. omega (arith, up c .most)) leading-requires (λ c. search needs)
-    (λ c. search needs) (λ c κs. let w = window (c .leading .ensures) in (w .from, w .below))
-    (λ c. omega (arith, up (c .before .before) .most)) sub-rounded
-    (λ c. omega (arith, up (c .before .before .before) .most)) rounded-requires returns-2)
+    (tie.spec returns (λ c. up c .zeros) (λ c. omega (arith, up c .most)) (λ c. omega (arith, up c .most)) (λ c. omega (arith, up c .most)) (λ c. omega (arith, up c .most)) root-below-requires
+    (λ c. omega (arith, up (c .before) .most)) sub-rounded (λ c. omega (arith, up (c .before .before .before) .most)) rounded-requires returns-2)
