@@ -12,10 +12,10 @@ use lib.Ieee.{Float, nan, inf, fin, binary64, nearest, isNan, ofBits, toBits}
 use lib.Ieee.Fits.{nearest-le}
 use Rattle.roots.specs.Root.{rootOf}
 use Rattle.roots.specs.Hypot.{hypotOf}
-use Rattle.roots.specs.Nearest.{NearestRoot, RootIsNearest, NearestIsOne, beyond, HypotIsNearest, HypotOverflows, HypotAtEnds}
+use Rattle.roots.specs.Nearest.{NearestRoot, RootIsNearest, NearestIsOne, FiniteIsSized, beyond, HypotIsNearest, HypotOverflows, HypotAtEnds}
 use Rattle.roots.proofs.Squares.{side, sq-le, sq-lt}
 use Rattle.roots.specs.Patterns.{top, unitsOf}
-use Rattle.roots.proofs.Ladder.{rising, level, rung, holds, written, endless}
+use Rattle.roots.proofs.Ladder.{rising, level, rung, holds, written, size-value, endless}
 use Rattle.roots.proofs.Rounding.{Ordered, ordered, decided, middle, root-rung, root-beyond}
 use Rattle.roots.proofs.Cases.{sqrt-units, hypot-units}
 
@@ -147,6 +147,9 @@ root-is-nearest x a h p =
     rw (sqrt-units x a p (h .1)) (root-nearest (a * 2 ^ 1074) (lt-of-lt-of-le (mul-lt-mul-of-pos-right l (pow-pos 1074)) (lit≤ tt)))
 
 -- ---- hypot
+pub finite-is-sized : FiniteIsSized
+finite-is-sized x F h = (unitsOf (toBits binary64 x % 2 ^ 63), record { sign = _; value = size-value x F h })
+
 pub hypot-is-nearest : HypotIsNearest
 hypot-is-nearest x y A B s t h = rw (hypot-units x y A B s t) (root-nearest (A * A + B * B) h)
 

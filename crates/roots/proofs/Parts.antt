@@ -9,7 +9,7 @@ use lib.Dec.{eqb}
 use borrow.Author.Tests.{eqb-true, eqb-false}
 use lib.Pow.{pow-add, pow-pos}
 use lib.Ieee.{nearest}
-use Rattle.roots.specs.Squares.{squares, Shifted54, SumSquares, roundedAt}
+use Rattle.roots.specs.Squares.{squares, ShiftedParts, SumSquares, roundedAt}
 use Rattle.roots.proofs.Squares.{four-power, four-pos}
 use Rattle.roots.proofs.Rounding.{Ordered, decided}
 
@@ -62,14 +62,14 @@ shifted-by t h = let s : 54 - t + t ≡ 54 = omega arith in sym (pow-add 2 (54 -
 pub shift-below : (H L t : ℕ) → L < 2 ^ 54 → t ≤ 54 → H % 2 ^ t * 2 ^ (54 - t) + L / 2 ^ t < 2 ^ 54
 shift-below H L t l h = lower-below H L (2 ^ t) (2 ^ (54 - t)) (shifted-by t h) (pow-pos t) l
 
-pub shift-is : (H L t : ℕ) → L < 2 ^ 54 → t ≤ 54 → Shifted54 (H * 2 ^ 54 + L) t (H / 2 ^ t) (H % 2 ^ t * 2 ^ (54 - t) + L / 2 ^ t) (eqb (L % 2 ^ t) 0)
+pub shift-is : (H L t : ℕ) → L < 2 ^ 54 → t ≤ 54 → ShiftedParts (H * 2 ^ 54 + L) t (H / 2 ^ t) (H % 2 ^ t * 2 ^ (54 - t) + L / 2 ^ t) (eqb (L % 2 ^ t) 0)
 shift-is H L t l h =
     let P = 2 ^ t in
     let S = 2 ^ (54 - t) in
     record { same = quotient H L P S (shifted-by t h) (pow-pos t) l; below = shift-below H L t l h; is = ap (λ (x : ℕ). eqb x 0) (rest H L P S (shifted-by t h) (pow-pos t) l) }
 
 -- ---- the sum: four times each square, the second moved down by 2 * d places
-pub sum-is : (m w d H L G K h l : ℕ) (e : Bool) → H * 2 ^ 54 + L ≡ 4 * (m * m) → G * 2 ^ 54 + K ≡ 4 * (w * w) → Shifted54 (G * 2 ^ 54 + K) (2 * d) h l e → SumSquares m w d (H + h + (L + l) / 2 ^ 54) ((L + l) % 2 ^ 54) e
+pub sum-is : (m w d H L G K h l : ℕ) (e : Bool) → H * 2 ^ 54 + L ≡ 4 * (m * m) → G * 2 ^ 54 + K ≡ 4 * (w * w) → ShiftedParts (G * 2 ^ 54 + K) (2 * d) h l e → SumSquares m w d (H + h + (L + l) / 2 ^ 54) ((L + l) % 2 ^ 54) e
 sum-is m w d H L G K h l e x y s =
     let D : 2 ^ (2 * d) ≡ 4 ^ d = ap (λ (t : ℕ). 2 ^ t) twice ∙ pow-add 2 d d ∙ sym (four-power d) in
     let z : h * 2 ^ 54 + l ≡ 4 * (w * w) / 4 ^ d = rw (y, D) at (s .same) in

@@ -1,8 +1,8 @@
 -- The root from a number c of steps that it lies on or less than 3/2 above: it is c or c + 1 of them, by their middle (`two-steps`). So with the sum of two squares (`sum-steps`), and where one of the two is far the larger it is the root (`far`). Assumes nothing.
-use mathlib.Core.Path.{_≡_, refl, sym, ap, _∙_}
+use mathlib.Core.Path.{_≡_, sym, ap, _∙_}
 use mathlib.Core.Logic.{_⊎_, inl, inr}
-use Prim.Native.Nat.{ℕ, zero, suc, _+_, _-_, _*_, _/_, _%_, _^_, _≤_, _<_, compare, min, Ordering·lt, Ordering·gt}
-use native.Mathlib.Nat.{le-trans, le-of-lt, le-of-eq, lt-of-lt-of-le, lt-of-le-of-lt, lt-of-mul-lt-mul-right, mul-le-mul, mul-le-mul-left, mul-le-mul-right, mul-lt-mul-of-pos-right, mul-pos, min-eq-left, min-eq-right, eq-or-lt-of-le}
+use Prim.Native.Nat.{ℕ, suc, _+_, _-_, _*_, _/_, _^_, _≤_, _<_, compare, min, Ordering·lt, Ordering·gt}
+use native.Mathlib.Nat.{le-trans, le-of-lt, le-of-eq, lt-of-lt-of-le, lt-of-le-of-lt, lt-of-mul-lt-mul-right, mul-le-mul-right, mul-lt-mul-of-pos-right, min-eq-left, min-eq-right, eq-or-lt-of-le}
 use native.Mathlib.Omega.{arith}
 use lib.Pow.{pow-add, pow-mono, pow-pos}
 use lib.Ieee.{binary64, nearest, ofBits}

@@ -26,7 +26,7 @@ pub record Good (n g : ℕ) : Type 0 where
   pub low : 64 * ((g - 1) * (g - 1)) ≤ n
   pub high : n < 64 * ((g + 2) * (g + 2))
 
--- c is √(n * 2 ^ 44) from below, and n may be less than 3 more before the root comes to c + 3/2, whose square is c² + 3 c + 9/4. By as much as `test` is more than `base`, n * 2 ^ 44 is more than c² + c.
+-- c is √(n * 2 ^ 44) from below, and by less than 3/2 even for n + 3: (c + 3/2)² is c² + 3 c + 9/4. By as much as `test` is more than `base`, n * 2 ^ 44 is more than c² + c.
 pub record NearBelow (n c base test : ℕ) : Type 0 where
   pub low : c * c ≤ n * 2 ^ 44
   pub high : (n + 3) * 2 ^ 44 ≤ c * c + 3 * c + 2

@@ -7,6 +7,7 @@ use mathlib.Core.Bool.{Bool, true, false, _||_}
 use lib.Dec.{T}
 use lib.Ieee.{Float, nan, inf, binary64, fits, isNan, toBits}
 use lib.Ieee.Exact.{HasValue}
+use lib.Ieee.Scale.{finite}
 use Rattle.roots.specs.Root.{sqrtOf}
 use Rattle.roots.specs.Hypot.{infinite, hypotOf}
 
@@ -39,6 +40,10 @@ NearestIsOne = (n : ℕ) (r s : Float) (R S : ℕ) → NearestRoot n r R → Nea
 pub record Sized (x : Float) (A : ℕ) : Type 0 where
   pub sign : Bool
   pub value : HasValue x sign A (2 ^ 1074)
+
+-- Every finite value has such a number of units. (proofs/Nearest.antt: finite-is-sized)
+abbrev pub FiniteIsSized : Type 0
+FiniteIsSized = (x : Float) → T (fits binary64 x) → T (finite x) → (A : ℕ) × Sized x A
 
 -- the square of the middle between the largest value, (2 ^ 53 - 1) * 2 ^ 2045 units, and 2 ^ 2098 units, which would come next: from there on the root is beyond the range
 abbrev pub beyond : ℕ

@@ -18,12 +18,12 @@ pub record Leading (m w d s : ℕ) : Type 0 where
   pub high : squares m w d < (s + 3) * 2 ^ 44 * 4 ^ d
 
 -- n as two numbers, the lower of 54 binary digits
-pub record Wide54 (n hi lo : ℕ) : Type 0 where
+pub record InParts (n hi lo : ℕ) : Type 0 where
   pub same : hi * 2 ^ 54 + lo ≡ n
   pub below : lo < 2 ^ 54
 
 -- n / 2 ^ t as two such numbers, and whether nothing is lost
-pub record Shifted54 (n t hi lo : ℕ) (exact : Bool) : Type 0 where
+pub record ShiftedParts (n t hi lo : ℕ) (exact : Bool) : Type 0 where
   pub same : hi * 2 ^ 54 + lo ≡ n / 2 ^ t
   pub below : lo < 2 ^ 54
   pub is : exact ≡ eqb (n % 2 ^ t) 0

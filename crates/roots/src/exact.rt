@@ -1,7 +1,7 @@
 // Four times the sum of two squares, m² + w² / 4^d, exactly, and how it compares with a square: in two numbers, the lower of 54 digits.
 ghost use mathlib.Core.Path.{_≡_};
 ghost use Prim.Native.Nat.{_+_, _*_, _^_, _≤_, _<_};
-ghost use Rattle.roots.specs.Squares.{Wide54, Shifted54, SumSquares, roundedAt};
+ghost use Rattle.roots.specs.Squares.{InParts, ShiftedParts, SumSquares, roundedAt};
 
 // hi * 2^54 + lo
 struct Wide {
@@ -19,7 +19,7 @@ struct Sum {
 // m * m
 fn square(m: u64) -> Wide
     requires { ⌜ m < 2 ^ 54 ⌝ }
-    ensures { λ r. ⌜ Wide54 (m * m) (r .hi) (r .lo) × (r .hi < 2 ^ 54) ⌝ }
+    ensures { λ r. ⌜ InParts (m * m) (r .hi) (r .lo) × (r .hi < 2 ^ 54) ⌝ }
 {
     let a = m / 0x800_0000;
     let b = m % 0x800_0000;
@@ -34,7 +34,7 @@ fn square(m: u64) -> Wide
 // 4 * x
 fn four(x: Wide) -> Wide
     requires { ⌜ (x .hi < 2 ^ 54) × (x .lo < 2 ^ 54) ⌝ }
-    ensures { λ r. ⌜ Wide54 (4 * (x .hi * 2 ^ 54 + x .lo)) (r .hi) (r .lo) × (r .hi < 2 ^ 56) ⌝ }
+    ensures { λ r. ⌜ InParts (4 * (x .hi * 2 ^ 54 + x .lo)) (r .hi) (r .lo) × (r .hi < 2 ^ 56) ⌝ }
 {
     let l = 4 * x.lo;
     Wide {
@@ -46,7 +46,7 @@ fn four(x: Wide) -> Wide
 // x / 2^t
 fn shifted(x: Wide, t: u64) -> Sum
     requires { ⌜ (x .hi < 2 ^ 56) × (x .lo < 2 ^ 54) × (t ≤ 54) ⌝ }
-    ensures { λ r. ⌜ Shifted54 (x .hi * 2 ^ 54 + x .lo) t (r .hi) (r .lo) (r .exact) ⌝ }
+    ensures { λ r. ⌜ ShiftedParts (x .hi * 2 ^ 54 + x .lo) t (r .hi) (r .lo) (r .exact) ⌝ }
 {
     let p = 1u64 << t;
     let s = 1u64 << (54 - t);
@@ -77,7 +77,7 @@ fn sum_squares(m: u64, w: u64, d: u64) -> Sum
 // (2 * c + 1)² * 4^k: four times the square of the middle of c and c + 1, k places up
 fn middle(c: u64, k: u64) -> Wide
     requires { ⌜ (c < 2 ^ 53) × (k ≤ 1) ⌝ }
-    ensures { λ r. ⌜ Wide54 ((2 * c + 1) * (2 * c + 1) * 4 ^ k) (r .hi) (r .lo) ⌝ }
+    ensures { λ r. ⌜ InParts ((2 * c + 1) * (2 * c + 1) * 4 ^ k) (r .hi) (r .lo) ⌝ }
 {
     let odd = square(2 * c + 1);
     if k == 0 {

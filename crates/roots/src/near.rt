@@ -1,6 +1,5 @@
 // Roots of whole numbers: the first digits by a line and a division, the others by a second division. There is no loop.
 use super::lines::line;
-ghost use mathlib.Core.Path.{_≡_};
 ghost use Prim.Native.Nat.{_^_, _≤_, _<_};
 ghost use Rattle.roots.specs.Lines.{Good, NearBelow};
 

@@ -1,5 +1,4 @@
 -- `subnormal`: the digits z places up (Cases.antt: `shift`), and those of the root down again (SumBits.antt: `subnormal-bits`).
-use borrow.Author.Needs.{needs}
 use Prim.Native.Nat.{ℕ, _-_, _/_, _^_, _<_}
 use native.Mathlib.Omega.{arith}
 use lib.Count.{leadingZeros}
