@@ -53,7 +53,7 @@ static uint32_t call_with(size_t n, size_t m, size_t k, uint32_t alternative, ui
     return dwexport_test(residuals, n, columns, m, k, alternative, choice, matrix, matrix_len, parts, parts_len, result, result_len);
 }
 
-/* The rooms at exit: the first 2 n^2 and 8,004 numbers +0, or all as they were. */
+/* The rooms at exit: the first n (n + 1) and 8,004 numbers +0, or all as they were. */
 static void check_rooms(const char *name, size_t n, int used) {
     size_t m = used ? DWEXPORT_MATRIX_ROOM(n) : 0, p = used ? DWEXPORT_PART_ROOM : 0;
     check(name, "the matrix room at exit", all(matrix, 0, m, 0.0) && all(matrix, m, ROOM + BEYOND, -7.5));
@@ -66,11 +66,17 @@ static void check_words(const char *name, const uint64_t *words) {
     check(name, "a word beyond the result", result[DWEXPORT_WORDS] == 0xdeadbeef);
 }
 
-/* A sheet of n rows and k columns with both rooms whole. */
-static void answered(const char *name, size_t n, size_t k, uint32_t alternative, uint32_t choice, int used, const uint64_t *words) {
-    check(name, "answered", call_with(n, k * n, k, alternative, choice, ROOM + BEYOND, DWEXPORT_PART_ROOM + BEYOND, DWEXPORT_WORDS) == DWEXPORT_ANSWERED);
+/* A sheet of n rows and m numbers of columns with rooms of these lengths. */
+static void answered_with(const char *name, size_t n, size_t m, size_t k, uint32_t alternative, uint32_t choice, size_t matrix_len, size_t parts_len, int used, const uint64_t *words) {
+    check(name, "answered", call_with(n, m, k, alternative, choice, matrix_len, parts_len, DWEXPORT_WORDS) == DWEXPORT_ANSWERED);
     check_words(name, words);
     check_rooms(name, n, used);
+}
+
+/* Of n rows and k columns, with both rooms just long enough, and then longer. */
+static void answered(const char *name, size_t n, size_t k, uint32_t alternative, uint32_t choice, int used, const uint64_t *words) {
+    answered_with(name, n, k * n, k, alternative, choice, n <= ROWS ? DWEXPORT_MATRIX_ROOM(n) : ROOM, DWEXPORT_PART_ROOM, used, words);
+    answered_with(name, n, k * n, k, alternative, choice, ROOM + BEYOND, DWEXPORT_PART_ROOM + BEYOND, used, words);
 }
 
 static void accepted(const char *name, size_t n, size_t k, uint32_t alternative, uint32_t choice, uint64_t statistic, uint64_t p, uint64_t path, uint64_t kept, uint64_t sweeps, uint64_t bisections, uint64_t evaluations, uint64_t settled) {
@@ -159,21 +165,26 @@ static void by_the_oracle(void) {
     accepted("2^-519 in a column: four indexes out of sweeps", 6, 2, DWEXPORT_GREATER, DWEXPORT_EXACT, 0x4006000000000000u, 0x3feeb6e524af1818u, 2, 4, 242, 15, 465, 0);
 }
 
+/* 2 n^2 numbers of matrix room, and one fewer: the answer is that of n (n + 1), and the numbers beyond these stay. */
+static void full_matrices(void) {
+    const uint64_t words[DWEXPORT_WORDS] = {0, 0, 0x3ffcaeecd63bf23eu, 0x3fdd9bd745fb9216u, 2, 0, 18, 42, 13, 405, 1};
+    cubes(20);
+    intercept_and_position(20, 2);
+    answered_with("20 rows, 420 numbers of matrix room", 20, 40, 2, DWEXPORT_TWO_SIDED, DWEXPORT_EXACT, 420, DWEXPORT_PART_ROOM, 1, words);
+    answered_with("20 rows, 799 numbers of matrix room", 20, 40, 2, DWEXPORT_TWO_SIDED, DWEXPORT_EXACT, 799, DWEXPORT_PART_ROOM, 1, words);
+    answered_with("20 rows, 800 numbers of matrix room", 20, 40, 2, DWEXPORT_TWO_SIDED, DWEXPORT_EXACT, 800, DWEXPORT_PART_ROOM, 1, words);
+    check("20 rows, 800 numbers of matrix room", "the first 420 are cleared, the other 380 stay", all(matrix, 0, 420, 0.0) && all(matrix, 420, 800, -7.5));
+}
+
 /* Lengths that do not fit: refusals of the test for the columns and the rooms, return codes for the rest. */
 static void lengths_and_codes(void) {
     uint64_t words[DWEXPORT_WORDS] = {3};
     set(1, -1, 1, -1);
-    check("columns one number short", "answered", call_with(4, 3, 1, DWEXPORT_GREATER, DWEXPORT_DEFAULT, ROOM, DWEXPORT_PART_ROOM, DWEXPORT_WORDS) == DWEXPORT_ANSWERED);
-    check_words("columns one number short", words);
-    check_rooms("columns one number short", 4, 0);
+    answered_with("columns one number short", 4, 3, 1, DWEXPORT_GREATER, DWEXPORT_DEFAULT, ROOM, DWEXPORT_PART_ROOM, 0, words);
     words[DWEXPORT_REFUSAL] = 12, words[DWEXPORT_PLACE] = 1;
-    check("matrix room one number short", "answered", call_with(4, 4, 1, DWEXPORT_GREATER, DWEXPORT_EXACT, 31, DWEXPORT_PART_ROOM, DWEXPORT_WORDS) == DWEXPORT_ANSWERED);
-    check_words("matrix room one number short", words);
-    check_rooms("matrix room one number short", 4, 0);
+    answered_with("matrix room one number short", 4, 4, 1, DWEXPORT_GREATER, DWEXPORT_EXACT, 19, DWEXPORT_PART_ROOM, 0, words);
     words[DWEXPORT_PLACE] = 2;
-    check("part room one number short", "answered", call_with(4, 4, 1, DWEXPORT_GREATER, DWEXPORT_EXACT, 32, DWEXPORT_PART_ROOM - 1, DWEXPORT_WORDS) == DWEXPORT_ANSWERED);
-    check_words("part room one number short", words);
-    check_rooms("part room one number short", 4, 0);
+    answered_with("part room one number short", 4, 4, 1, DWEXPORT_GREATER, DWEXPORT_EXACT, 20, DWEXPORT_PART_ROOM - 1, 0, words);
     turned_away("a result of no word", DWEXPORT_GREATER, DWEXPORT_EXACT, 0, DWEXPORT_WRONG_RESULT_LENGTH);
     turned_away("a result of 10 words", DWEXPORT_GREATER, DWEXPORT_EXACT, 10, DWEXPORT_WRONG_RESULT_LENGTH);
     turned_away("a result of 12 words", DWEXPORT_GREATER, DWEXPORT_EXACT, 12, DWEXPORT_WRONG_RESULT_LENGTH);
@@ -188,6 +199,7 @@ static void lengths_and_codes(void) {
 int main(void) {
     by_hand();
     by_the_oracle();
+    full_matrices();
     lengths_and_codes();
     printf("%u passed, %u failed\n", passed, failed);
     return failed != 0;

@@ -1,5 +1,5 @@
 //! Reads sheet files, asks the library each sheet, and compares the words with the sheet program's lines:
-//! `check FILE.sheet FILE.txt ..`. Then a result of a wrong length and wrong codes. Prints each check that fails, then `N passed, M failed`.
+//! `check FILE.sheet FILE.txt ..`. Then a result of a wrong length and wrong codes, and matrix rooms of other lengths. Prints each check that fails, then `N passed, M failed`.
 use std::{env, fs, process};
 
 const WORDS: usize = 11;
@@ -46,7 +46,7 @@ fn line(file: &[u8], i: usize) -> String {
     let start = offset + 8 * n * usize::from(file[at + 10]);
     let residuals = numbers(file, start, n);
     let columns = numbers(file, start + 8 * n, n * k);
-    let (mut matrix, mut parts, mut w) = (vec![1.0; 2 * 64 * 64], vec![1.0; 8004], [1; WORDS]);
+    let (mut matrix, mut parts, mut w) = (vec![1.0; 64 * 65], vec![1.0; 8004], [1; WORDS]);
     let code = test(&residuals, &columns, k, alternative, choice, &mut matrix, &mut parts, &mut w);
     if code != 0 {
         return format!("{} is not answered: {}", i, code);
@@ -95,11 +95,22 @@ fn main() {
         }
     }
     for (name, words, alternative, choice, code) in [("10 words", 10, 0, 0, "1"), ("12 words", 12, 0, 0, "1"), ("alternative 3", 11, 3, 0, "2"), ("choice 3", 11, 0, 3, "3"), ("sound", 11, 0, 0, "0")] {
-        let (mut matrix, mut parts, mut result) = (vec![1.0; 18], vec![1.0; 8004], vec![7; words]);
+        let (mut matrix, mut parts, mut result) = (vec![1.0; 12], vec![1.0; 8004], vec![7; words]);
         let found = test(&[1.0, -1.0, 0.0], &[1.0; 3], 1, alternative, choice, &mut matrix, &mut parts, &mut result);
         tally.check(name, &found.to_string(), code);
         tally.check(name, &result.iter().all(|w| *w == 7).to_string(), &(code != "0").to_string());
         tally.check(name, &matrix.iter().chain(&parts).all(|x| *x == 1.0).to_string(), &(code != "0").to_string());
+    }
+    // Three rows want 12 numbers of matrix room. With 18, as two full matrices would want, the words are the same, and the other 6 stay.
+    for (lent, cleared, refusal) in [(11, 0, "12 1"), (12, 12, "0 0"), (13, 12, "0 0"), (17, 12, "0 0"), (18, 12, "0 0")] {
+        let name = format!("three rows, {} numbers of matrix room", lent);
+        let (mut matrix, mut parts, mut w) = (vec![1.0; lent], vec![1.0; 8004], [7; WORDS]);
+        let code = test(&[1.0, -1.0, 0.0], &[1.0; 3], 1, 0, 1, &mut matrix, &mut parts, &mut w);
+        tally.check(&name, &format!("{} {} {}", code, w[0], w[1]), &format!("0 {}", refusal));
+        let p: u64 = if cleared > 0 { 0x3fe5555555554755 } else { 0 };
+        tally.check(&name, &format!("{:016x}", w[3]), &format!("{:016x}", p));
+        let held = matrix.iter().enumerate().all(|(t, x)| x.to_bits() == if t < cleared { 0 } else { 1.0f64.to_bits() });
+        tally.check(&name, &held.to_string(), "true");
     }
     println!("{} passed, {} failed", tally.passed, tally.failed);
     process::exit(i32::from(tally.failed != 0));

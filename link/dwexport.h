@@ -14,8 +14,9 @@ extern "C" {
 #define DWEXPORT_MAX_ROWS 256
 #define DWEXPORT_MAX_COLUMNS 8
 
-/* Numbers that the exact path wants of the two rooms, for a sheet of n rows. With fewer than 3 rows, or on the normal path, none. */
-#define DWEXPORT_MATRIX_ROOM(n) (2 * (size_t)(n) * (size_t)(n))
+/* Numbers that the exact path wants of the two rooms, for a sheet of n rows. With fewer than 3 rows, or on the normal path, none. A caller that still
+   lends the 2 n^2 numbers of matrix room that were wanted once gets the same answer, and only its first n (n + 1) numbers are cleared. */
+#define DWEXPORT_MATRIX_ROOM(n) ((size_t)(n) * ((size_t)(n) + 1))
 #define DWEXPORT_PART_ROOM 8004
 
 /* Codes of the alternative. */
@@ -68,7 +69,7 @@ enum {
    other call leaves both rooms as they were. What the rooms hold before a call does not matter. residuals and columns are only read.
 
    The function has no heap, keeps nothing between calls and calls nothing but memset and memcpy: threads may call it at once, each
-   with a result and rooms of its own. It wants some 40 KB of stack.
+   with a result and rooms of its own. It wants some 50 KB of stack.
 
    Duties of the caller, which nothing can check: the rows are in print order, which no positions show here; each pointer points to as
    many numbers as its length says, aligned to 8 bytes, and is not NULL even where the length is 0; matrix, parts and result overlap

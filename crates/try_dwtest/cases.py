@@ -51,7 +51,7 @@ def powers(n, k):
 
 
 def rooms_of(n):
-    return 2 * n * n, 8004
+    return n * (n + 1), 8004
 
 
 def document():
@@ -145,11 +145,22 @@ def lengths():
     yield ('refusal 12 2', '12, place 2: none',) + sheet + (EXACT, a, 0)
     yield ('path 4', 'normal needs no room',) + sheet + (NORMAL, 0, 0)
     yield 'path 1', 'path 1 needs no room', [1, -1], ones(2), 1, EXACT, 0, 0
-    yield 'refusal 13 1', '13, place 1 before 12', [1, -1, 0], ones(3) + [1e200, -1e200, 1e200], 2, EXACT, 17, 8004
+    yield 'refusal 13 1', '13, place 1 before 12', [1, -1, 0], ones(3) + [1e200, -1e200, 1e200], 2, EXACT, 11, 8004
     yield 'refusal 11 1', '11 before 12', [1, -1, 0], ones(6), 2, EXACT, 0, 0
-    yield 'refusal 12 1', '12 before 13, place 3', [-1, 0, 0, 1], [0, 0, 1, 2.0 ** -537], 1, EXACT, 31, 8004
-    yield 'refusal 12 1', '12 at 256 rows', cubes(256), ones(256), 1, EXACT, 131071, 8004
-    yield 'refusal 13 3', '13, place 3: rooms just long enough', [-1, 0, 0, 1], [0, 0, 1, 2.0 ** -537], 1, EXACT, 32, 8004
+    yield 'refusal 12 1', '12 before 13, place 3', [-1, 0, 0, 1], [0, 0, 1, 2.0 ** -537], 1, EXACT, 19, 8004
+    yield 'refusal 12 1', '12 at 256 rows', cubes(256), ones(256), 1, EXACT, 65791, 8004
+    yield 'refusal 13 3', '13, place 3: rooms just long enough', [-1, 0, 0, 1], [0, 0, 1, 2.0 ** -537], 1, EXACT, 20, 8004
+
+
+def served():
+    """Matrix rooms of n (n + 1) numbers, where the groups of eight rows and the blocks of sixteen begin and end, and of up to 2n²: only the first n (n + 1) are used."""
+    for n in (3, 7, 8, 9, 15, 16, 17, 256):
+        yield 'path 2', '%d rows, the matrix room just long enough' % n, cubes(n), powers(n, 2), 2, EXACT, n * (n + 1), 8004
+    for n in (3, 16, 17):
+        yield 'refusal 12 1', '%d rows, the matrix room one too short' % n, cubes(n), powers(n, 2), 2, EXACT, n * (n + 1) - 1, 8004
+        yield 'path 2', '%d rows, a matrix room of 2n² - 1' % n, cubes(n), powers(n, 2), 2, EXACT, 2 * n * n - 1, 8004
+        yield 'path 2', '%d rows, a matrix room of 2n²' % n, cubes(n), powers(n, 2), 2, EXACT, 2 * n * n, 8004
+    yield 'refusal 13 3', '13, place 3: a matrix room of 2n²', [-1, 0, 0, 1], [0, 0, 1, 2.0 ** -537], 1, EXACT, 32, 8004
 
 
 def at_the_limit():
@@ -171,6 +182,8 @@ def cases():
         yield due, name, e, x, k, LESS, choice, matrix, parts
     for due, name, e, x, k, choice in at_the_limit():
         yield due, name, e, x, k, GREATER, choice, FULL[0], FULL[1]
+    for due, name, e, x, k, choice, matrix, parts in served():
+        yield due, name, e, x, k, TWO_SIDED, choice, matrix, parts
 
 
 def call(e, x, k, alternative, choice, matrix, parts):

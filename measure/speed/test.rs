@@ -78,7 +78,7 @@ mod side {
     impl Side {
         pub fn new() -> Side {
             let run = |length| vec![0.0; length];
-            Side { matrix: run(2 * 256 * 256), parts: run(8004), d: run(256), e: run(256), kept: run(256), inverse: run(64) }
+            Side { matrix: run(256 * 257), parts: run(8004), d: run(256), e: run(256), kept: run(256), inverse: run(64) }
         }
 
         pub fn whole(&mut self, s: &Sheet, exact: bool) -> f64 {
@@ -100,7 +100,7 @@ mod side {
                     tested_mam(x.as_ptr(), x.len(), n, k, inverse, m, m_len);
                 }
                 if last >= 3 {
-                    tested_tridiagonal(m, n * n, n, d, 256, e, 256);
+                    tested_tridiagonal(m, n * (n + 1) / 2, n, d, 256, e, 256);
                 }
                 let mut answer = 0.0;
                 if last >= 4 {

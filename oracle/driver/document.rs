@@ -26,10 +26,15 @@ pub struct Rooms {
 /// Four runs of 2,001 numbers: the parts of 2,000 bisections.
 pub const PART_ROOM: usize = 8004;
 
+/// The matrix room that so many rows want: two lower triangles.
+fn matrix_room(rows: usize) -> usize {
+    rows * (rows + 1)
+}
+
 impl Rooms {
     /// Matrix room for so many rows, and full part room.
     pub fn of_rows(rows: usize) -> Rooms {
-        Rooms { matrix: 2 * rows * rows, parts: PART_ROOM }
+        Rooms { matrix: matrix_room(rows), parts: PART_ROOM }
     }
 }
 
@@ -50,7 +55,7 @@ fn refusal(sheet: &Sheet, rust: &Line, record: &Record, rooms: Rooms) -> Option<
         .or(when(!finite_pair(record.sums), 9, 0))
         .or(rust_says(&[10, 11]))
         .or(when(!finite(&record.inverse), 13, 1))
-        .or(when(sheet.is_exact() && rooms.matrix < 2 * rows * rows, 12, 1))
+        .or(when(sheet.is_exact() && rooms.matrix < matrix_room(rows), 12, 1))
         .or(when(sheet.is_exact() && rooms.parts < PART_ROOM, 12, 2))
         .or(when(!finite(&record.product), 13, 2))
         .or(when(!finite(&record.delivered), 13, 3))

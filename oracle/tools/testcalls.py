@@ -72,12 +72,23 @@ class Draws:
         return e
 
 
+def matrix_room(n):
+    """The numbers that n rows want: two lower triangles."""
+    return n * (n + 1)
+
+
+def full_room(n):
+    """2n² numbers, as two full matrices would want; at most what the program has."""
+    return min(2 * n * n, MOST_MATRIX)
+
+
 def lent(draws, n, exact):
-    """Lengths of rooms that serve the call, most often a little longer; few numbers where none are needed."""
+    """Lengths of rooms that serve the call, most often a little longer, now and then 2n²; few numbers where none are needed."""
     if exact:
-        return min(2 * n * n + draws.below(9), MOST_MATRIX), PART_ROOM + draws.below(9)
+        more = draws.below(9)
+        return full_room(n) if more == 8 else matrix_room(n) + more, PART_ROOM + draws.below(9)
     if draws.below(16) == 0:
-        return min(2 * n * n, MOST_MATRIX), PART_ROOM + draws.below(9)
+        return matrix_room(n), PART_ROOM + draws.below(9)
     return draws.below(40), draws.below(40)
 
 
@@ -185,8 +196,7 @@ def lengths(draws):
     elif turn == 2:
         call.residuals = draws.one_of([call.residuals[:-1], [], call.residuals + [bits(1.0)], call.residuals[:1]])
     elif turn == 3 and exact:
-        call.matrix = draws.one_of([max(2 * n * n - 1, 0), 0, n * n, 2 * n * n])
-        call.matrix = min(call.matrix, MOST_MATRIX)
+        call.matrix = draws.one_of([max(matrix_room(n) - 1, 0), matrix_room(n), max(full_room(n) - 1, 0), full_room(n), 0, matrix_room(n) // 2])
     elif turn == 4 and exact:
         call.parts = draws.one_of([PART_ROOM - 1, 0, 2001, PART_ROOM])
     elif turn == 5 and exact:

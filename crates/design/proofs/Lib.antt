@@ -1,5 +1,6 @@
 -- For callers.
 pub mod SheetLaws
+pub mod DifferenceLaws
 pub mod Bounds
 pub mod Early
 pub mod Single
@@ -8,7 +9,6 @@ pub mod Worked
 pub mod FillLaws
 pub mod FactorLaws
 pub mod InverseLaws
-pub mod DifferenceLaws
 pub mod CrossLaws
 pub mod TraceLaws
 pub mod EveryLaws

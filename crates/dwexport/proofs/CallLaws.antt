@@ -1,5 +1,5 @@
 -- A call case by case: refused for its result's length or a code, or answered. Assumes nothing.
-use Prim.Native.Nat.{ℕ, _*_, _<_, _≤_}
+use Prim.Native.Nat.{ℕ, _<_, _≤_}
 use native.Mathlib.Omega.{arith}
 use mathlib.Core.Path.{_≡_, refl, sym, _∙_}
 use mathlib.Core.Bool.{Bool, true, false}
@@ -8,7 +8,7 @@ use lib.Dec.{eqb, ltb}
 use lib.ListN.{length}
 use lib.Ieee.{Float}
 use borrow.Author.Tests.{eqb-true, ltb-true, lt-ltb}
-use Rattle.dwtest.specs.Test.{testOf, touched, clearedOf}
+use Rattle.dwtest.specs.Test.{roomOf, testOf, touched, clearedOf}
 use Rattle.fields.specs.Answer.{alternativeOf, choiceOf, fieldsOf, wordsOf}
 use Rattle.dwexport.specs.Call.{statusOf, resultOf, matrixAfter, partsAfter}
 
@@ -50,7 +50,7 @@ module _ (e x : List Float) (k alternative choice : ℕ) (matrix parts : List Fl
   pub answered-gives : eqb (statusOf (length result) alternative choice) 0 ≡ true
       → (wordsOf (fieldsOf 0 (testOf e x k (alternativeOf alternative) (choiceOf choice) (length matrix) (length parts)))
       ≡ resultOf e x k alternative choice matrix parts result)
-      × (clearedOf (touched e x k (choiceOf choice) (length matrix) (length parts)) (2 * (length e * length e)) matrix
+      × (clearedOf (touched e x k (choiceOf choice) (length matrix) (length parts)) (roomOf (length e)) matrix
       ≡ matrixAfter e x k alternative choice matrix parts result)
       × (clearedOf (touched e x k (choiceOf choice) (length matrix) (length parts)) 8004 parts ≡ partsAfter e x k alternative choice matrix parts result)
   answered-gives h = rw h (refl, refl, refl)

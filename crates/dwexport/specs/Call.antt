@@ -1,12 +1,12 @@
 -- What a call of the exported function gives: its return value, the result's words and what both rooms hold at exit. e is the run of residuals, x the run
 -- of k columns; alternative and choice are codes. Definitions only. Assumes nothing.
-use Prim.Native.Nat.{ℕ, _*_}
+use Prim.Native.Nat.{ℕ}
 use mathlib.Core.Bool.{Bool, _&&_, cond}
 use mathlib.Core.List.{List}
 use lib.Dec.{eqb, ltb}
 use lib.ListN.{length}
 use lib.Ieee.{Float}
-use Rattle.dwtest.specs.Test.{testOf, touched, clearedOf}
+use Rattle.dwtest.specs.Test.{roomOf, testOf, touched, clearedOf}
 use Rattle.fields.specs.Answer.{alternativeOf, choiceOf, fieldsOf, wordsOf}
 
 -- 0 where the call is answered; 1 the result's run has not 11 words; 2, 3 the code of the alternative, of the choice, is none of 0, 1, 2
@@ -27,7 +27,7 @@ module _ (e x : List Float) (k alternative choice : ℕ) (matrix parts : List Fl
 
   -- the rooms at exit: what the test used is +0, and all else as it was
   abbrev pub matrixAfter : List Float
-  matrixAfter = clearedOf roomsUsed (2 * (length e * length e)) matrix
+  matrixAfter = clearedOf roomsUsed (roomOf (length e)) matrix
 
   abbrev pub partsAfter : List Float
   partsAfter = clearedOf roomsUsed 8004 parts

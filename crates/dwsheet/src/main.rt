@@ -38,7 +38,7 @@ fn test_entry(file: &[u8], i: usize, e: Entry) -> bool
 {
     let mut residuals = [0.0f64; 8192];
     let mut columns = [0.0f64; 8192];
-    let mut matrix = [0.0f64; 8192];
+    let mut matrix = [0.0f64; 4160];
     let mut parts = [0.0f64; 8004];
     let n = sheet::file::read_residuals(file, e, &mut residuals);
     let m = sheet::file::read_columns(file, e, &mut columns);

@@ -1,20 +1,15 @@
 -- What passing a check tells: the columns are sound, so their sizes fit; there are more rows than columns; every pivot holds. Assumes nothing.
-use mathlib.Core.Path.{_≡_, refl, sym, _∙_, subst}
+use mathlib.Core.Path.{_≡_, refl, sym, subst}
 use mathlib.Core.Bool.{Bool, true, false, not, cond, true≢false}
-use Prim.Native.Nat.{ℕ, zero, suc, _+_, _*_, _≤_, _<_}
+use Prim.Native.Nat.{ℕ, zero, suc, _*_, _≤_, _<_}
 use native.Mathlib.Omega.{arith}
 use mathlib.Core.List.{List}
 use lib.Dec.{T, ltb, leb, eqb, eqb→eq, nltb→le, nleb→lt}
 use lib.ListN.{length}
 use lib.Ieee.{Float}
-use Rattle.floats.specs.Search.{firstBad}
-use Rattle.floats.specs.declared.search.Found.{Found}
-use Rattle.floats.specs.declared.search.Found.the-variants.{At, Nothing}
-use Rattle.design.specs.Sheet.{columnsOf, columnsNumber, tooFewRows, numbersBy}
+use Rattle.design.specs.Sheet.{columnsOf, columnsNumber}
 use Rattle.design.specs.Factor.{pivotsNumber}
 use Rattle.dwtest.specs.Refusals.{passed, refusal, passes, rowsRefusal, roomRefusal}
-use Rattle.design.specs.declared.Columns.{Columns}
-use Rattle.design.specs.declared.Columns.the-variants.{NoColumn, RowsOver, ColumnsOver, WrongLength, NotFinite, Sound}
 use Rattle.design.specs.declared.Pivots.{Pivots}
 use Rattle.design.specs.declared.Pivots.the-variants.{Hold, Fails}
 
@@ -58,10 +53,10 @@ more-rows n k h = go (leb n k) refl h
     go false e r = nleb→lt n k (untruth (leb n k) e)
 
 -- both rooms are long enough
-pub rooms-fit : (n m p : ℕ) → passes (roomRefusal n m p) ≡ true → (2 * (n * n) ≤ m) × (8004 ≤ p)
-rooms-fit n m p h = go (ltb m (2 * (n * n))) refl (ltb p 8004) refl h
+pub rooms-fit : (wanted m p : ℕ) → passes (roomRefusal wanted m p) ≡ true → (wanted ≤ m) × (8004 ≤ p)
+rooms-fit wanted m p h = go (ltb m wanted) refl (ltb p 8004) refl h
   where
-    go : (a : Bool) → ltb m (2 * (n * n)) ≡ a → (b : Bool) → ltb p 8004 ≡ b → passes (cond a (refusal 12 1) (cond b (refusal 12 2) passed)) ≡ true → (2 * (n * n) ≤ m) × (8004 ≤ p)
+    go : (a : Bool) → ltb m wanted ≡ a → (b : Bool) → ltb p 8004 ≡ b → passes (cond a (refusal 12 1) (cond b (refusal 12 2) passed)) ≡ true → (wanted ≤ m) × (8004 ≤ p)
     go true q b r s = absurd (true≢false (sym s))
     go false q true r s = absurd (true≢false (sym s))
-    go false q false r s = (nltb→le m (2 * (n * n)) (untruth (ltb m (2 * (n * n))) q), nltb→le p 8004 (untruth (ltb p 8004) r))
+    go false q false r s = (nltb→le m wanted (untruth (ltb m wanted) q), nltb→le p 8004 (untruth (ltb p 8004) r))

@@ -1,6 +1,6 @@
 -- The refusals of document 01 by number and place, in the order tried. What a step found is turned into its refusal, which passes where the number is 0.
 -- e is the run of n residuals, x the run of k columns. Definitions only. Assumes nothing.
-use Prim.Native.Nat.{ℕ, _*_}
+use Prim.Native.Nat.{ℕ}
 use mathlib.Core.Bool.{Bool, cond}
 use mathlib.Core.List.{List, [], _∷_}
 use lib.Dec.{ltb, eqb}
@@ -54,9 +54,9 @@ pivotsRefusal p = refusal (pivotsNumber p) (pivotsPlace p)
 abbrev pub inverseRefusal : ℕ → Matrix → Refusal
 inverseRefusal k inverse = cond (finiteMatrix k inverse) passed (refusal 13 1)
 
--- 12: of the room lent, the matrix room is below 2n² numbers, or the part room below 8,004
+-- 12: of the room lent, the matrix room is below what is wanted, or the part room below 8,004 numbers
 abbrev pub roomRefusal : ℕ → ℕ → ℕ → Refusal
-roomRefusal n matrixRoom partRoom = cond (ltb matrixRoom (2 * (n * n))) (refusal 12 1) (cond (ltb partRoom 8004) (refusal 12 2) passed)
+roomRefusal wanted matrixRoom partRoom = cond (ltb matrixRoom wanted) (refusal 12 1) (cond (ltb partRoom 8004) (refusal 12 2) passed)
 
 -- 13, stage 5, and 14: the law
 abbrev pub lawRefusal : LawAnswer → Refusal

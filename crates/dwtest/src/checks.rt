@@ -1,6 +1,6 @@
 // What each step found, as a refusal of document 01.
 ghost use mathlib.Core.Path.{_≡_};
-ghost use Prim.Native.Nat.{_≤_};
+ghost use Prim.Native.Nat.{_+_, _*_, _≤_};
 ghost use Rattle.autocorrelation.specs.Statistic.{value};
 ghost use Rattle.dwtest.specs.Refusals.{columnsRefusal, statisticRefusal, rowsRefusal, pivotsRefusal, inverseRefusal, roomRefusal};
 use super::Refusal;
@@ -121,10 +121,9 @@ pub fn of_pivots(found: Pivots) -> Refusal
 // Refusal 12.
 pub fn of_rooms(n: usize, matrix: usize, parts: usize) -> Refusal
     requires { ⌜ n ≤ 256 ⌝ }
-    ensures { λ r. ⌜ r ≡ roomRefusal n matrix parts ⌝ }
+    ensures { λ r. ⌜ r ≡ roomRefusal (n * (n + 1)) matrix parts ⌝ }
 {
-    let square = n * n;
-    if matrix < 2 * square {
+    if matrix < n * (n + 1) {
         return Refusal {
             number: 12,
             place: 1,

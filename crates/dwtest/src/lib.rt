@@ -6,7 +6,7 @@ ghost use mathlib.Core.List.{_++_};
 ghost use Prim.Native.Nat.{_*_, _≤_, _<_};
 ghost use lib.ListN.{length, drop, replicate};
 ghost use Rattle.floats.specs.Words.{plusZero};
-ghost use Rattle.dwtest.specs.Test.{designOf, designTouches, testOf, touched, clearedOf};
+ghost use Rattle.dwtest.specs.Test.{roomOf, designOf, designTouches, testOf, touched, clearedOf};
 
 mod checks;
 mod paths;
@@ -73,9 +73,9 @@ fn test_design(
     parts: &mut [f64],
 ) -> Outcome
     requires { ⌜ (n ≤ 256) × (1 ≤ k) × (k < n) × (k ≤ 8) × (k * n ≡ length (now columns)) ⌝ }
-    ensures { λ r. ⌜ r ≡ designOf (now (columns .entry)) n k d alternative choice (length (now (matrix .entry))) (length (now (parts .entry))) ⌝ }
-    ensures { λ _. ⌜ now (matrix .exit) ≡ clearedOf (designTouches (now (columns .entry)) n k choice (length (now (matrix .entry))) (length (now (parts .entry)))) (2 * (n * n)) (now (matrix .entry)) ⌝ }
-    ensures { λ _. ⌜ now (parts .exit) ≡ clearedOf (designTouches (now (columns .entry)) n k choice (length (now (matrix .entry))) (length (now (parts .entry)))) 8004 (now (parts .entry)) ⌝ }
+    ensures { λ r. ⌜ r ≡ designOf roomOf (now (columns .entry)) n k d alternative choice (length (now (matrix .entry))) (length (now (parts .entry))) ⌝ }
+    ensures { λ _. ⌜ now (matrix .exit) ≡ clearedOf (designTouches roomOf (now (columns .entry)) n k choice (length (now (matrix .entry))) (length (now (parts .entry)))) (roomOf n) (now (matrix .entry)) ⌝ }
+    ensures { λ _. ⌜ now (parts .exit) ≡ clearedOf (designTouches roomOf (now (columns .entry)) n k choice (length (now (matrix .entry))) (length (now (parts .entry)))) 8004 (now (parts .entry)) ⌝ }
 {
     let mut l = [[0.0f64; 8]; 8];
     let pivots = checks::of_pivots(design::factor(columns, n, k, &mut l));
@@ -115,14 +115,13 @@ fn test_design(
         return refused(rooms);
     }
     let outcome = paths::exact(columns, n, k, inverse, d, alternative, matrix, parts);
-    let square = n * n;
-    clear(matrix, 2 * square);
+    clear(matrix, n * (n + 1));
     clear(parts, 8004);
     outcome
 }
 
-// The test. `columns` is k columns of as many numbers as there are residuals, one after another. The rooms are lent for the exact path: 2n² numbers and
-// 8,004. A call that uses them leaves those numbers +0; every other call changes neither room.
+// The test. `columns` is k columns of as many numbers as there are residuals, one after another. The rooms are lent for the exact path: n (n + 1) numbers
+// and 8,004. A call that uses them leaves those numbers +0; every other call changes neither room.
 pub fn durbin_watson_test(
     residuals: &[f64],
     columns: &[f64],
@@ -133,7 +132,7 @@ pub fn durbin_watson_test(
     parts: &mut [f64],
 ) -> Outcome
     ensures { λ r. ⌜ r ≡ testOf (now (residuals .entry)) (now (columns .entry)) k alternative choice (length (now (matrix .entry))) (length (now (parts .entry))) ⌝ }
-    ensures { λ _. ⌜ now (matrix .exit) ≡ clearedOf (touched (now (residuals .entry)) (now (columns .entry)) k choice (length (now (matrix .entry))) (length (now (parts .entry)))) (2 * (length (now (residuals .entry)) * length (now (residuals .entry)))) (now (matrix .entry)) ⌝ }
+    ensures { λ _. ⌜ now (matrix .exit) ≡ clearedOf (touched (now (residuals .entry)) (now (columns .entry)) k choice (length (now (matrix .entry))) (length (now (parts .entry)))) (roomOf (length (now (residuals .entry)))) (now (matrix .entry)) ⌝ }
     ensures { λ _. ⌜ now (parts .exit) ≡ clearedOf (touched (now (residuals .entry)) (now (columns .entry)) k choice (length (now (matrix .entry))) (length (now (parts .entry)))) 8004 (now (parts .entry)) ⌝ }
 {
     let n = residuals.len();

@@ -231,7 +231,7 @@ fn probability(kept: &[f64], count: usize, d: f64, parts: &mut [f64]) -> Exact
     imhof::prob_below_zero(&kept[..count], d, parts)
 }
 
-// Path 2, or what comes of it. Of the rooms only their first 2n² and 8,004 numbers change.
+// Path 2, or what comes of it. Of the rooms only their first n (n + 1) and 8,004 numbers change.
 pub fn exact(
     columns: &[f64],
     n: usize,
@@ -242,9 +242,9 @@ pub fn exact(
     matrix: &mut [f64],
     parts: &mut [f64],
 ) -> Outcome
-    requires { ⌜ (3 ≤ n) × (n ≤ 256) × (1 ≤ k) × (k < n) × (k ≤ 8) × (k * n ≡ length (now columns)) × (2 * (n * n) ≤ length (now matrix)) × (8004 ≤ length (now parts)) ⌝ }
+    requires { ⌜ (3 ≤ n) × (n ≤ 256) × (1 ≤ k) × (k < n) × (k ≤ 8) × (k * n ≡ length (now columns)) × (n * (n + 1) ≤ length (now matrix)) × (8004 ≤ length (now parts)) ⌝ }
     ensures { λ r. ⌜ r ≡ exactPath (now (columns .entry)) n k inverse d alternative ⌝ }
-    ensures { λ _. ⌜ drop (2 * (n * n)) (now (matrix .exit)) ≡ drop (2 * (n * n)) (now (matrix .entry)) ⌝ }
+    ensures { λ _. ⌜ drop (n * (n + 1)) (now (matrix .exit)) ≡ drop (n * (n + 1)) (now (matrix .entry)) ⌝ }
     ensures { λ _. ⌜ drop 8004 (now (parts .exit)) ≡ drop 8004 (now (parts .entry)) ⌝ }
 {
     let mut kept = [0.0f64; 256];

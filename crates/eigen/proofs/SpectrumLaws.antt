@@ -1,29 +1,25 @@
 -- From the values that the code holds, step by step, to the spectrum's definitions; and what is known of the kept numbers. Assumes nothing.
 use mathlib.Core.Path.{_≡_, refl, sym, ap, _∙_}
-use mathlib.Core.Logic.{_⊎_, inl, inr}
-use Prim.Native.Nat.{ℕ, _+_, _-_, _*_, _/_, _%_, _≤_}
-use native.Mathlib.Nat.{le-trans, two-mul}
+use Prim.Native.Nat.{ℕ, _+_, _-_, _*_, _≤_}
 use native.Mathlib.Omega.{arith}
 use mathlib.Core.List.{List, [], _++_, append-nil}
-use lib.Ieee.{Float, eq}
-use Rattle.floats.specs.Words.{plusZero}
-use Rattle.floats.specs.Sums.{sumSquares}
-use Rattle.floats.specs.Tables.{square}
-use lib.ListN.{length, take, drop, drop-of-length-le, length-append}
+use lib.Ieee.{Float}
+use Rattle.floats.specs.Tables.{triangle}
+use Rattle.floats.specs.Matrix.{entry, whole, halfOf}
+use lib.ListN.{length, take, drop, drop-of-length-le}
 use lib.Seq.{take-at, drop-at, drop-drop, take-append-le}
-use mathlib.Core.Bool.{Bool, true, false, cond}
-use Rattle.floats.proofs.TurnLaws.{turns-keep}
-use Rattle.floats.proofs.TableLaws.{length-table}
-use Rattle.floats.proofs.MatrixLaws.{length-symmetric}
+use mathlib.Core.Bool.{Bool}
+use Rattle.floats.proofs.HalfLaws.{triangle-twice, length-half, length-whole, whole-symmetric, whole-half, half-symmetric, half-finite, half-not-finite}
+use Rattle.tridiagonal.proofs.ReflectionLaws.{tridiagonal-long, tridiagonal-symmetric}
 use Rattle.floats.specs.Count.{noWork}
 use Rattle.floats.specs.Search.{firstBad}
 use Rattle.floats.specs.declared.tally.Tally.{Tally}
 use Rattle.floats.specs.declared.search.Found.{Found}
 use Rattle.floats.specs.declared.search.Found.the-variants.{At, Nothing}
-use Rattle.projection.specs.Projection.{residual, product, mamOf, residualMaker}
-use Rattle.tridiagonal.specs.Reflection.{columnOf, normOf, alphaOf, normalOf, imageOf, correctionOf, reflectedEntry, reflected, tridiagonalOf}
+use Rattle.projection.specs.Projection.{product, residualMaker, mamOf}
+use Rattle.tridiagonal.specs.Reflection.{tridiagonalOf}
 use Rattle.tridiagonal.specs.Bands.{diagonalOf, couplingsOf}
-use Rattle.ql.specs.Ql.{Worked, qlOf, stuckOf}
+use Rattle.ql.specs.Ql.{qlOf, stuckOf}
 use Rattle.eigen.specs.Kept.{falling, large, keptOf}
 use Rattle.eigen.specs.Spectrum.{bandsWorked, bandsStuck, workedOf, numbersOf, deliveredOf, deliveredNumbers, spectrumOf, keptNumbers, frontOf, keptBy, keptFrom, spectrumBy, numbersBy, frontBy}
 use Rattle.eigen.specs.declared.Numbers.{Numbers}
@@ -32,17 +28,30 @@ use Rattle.eigen.proofs.OrderLaws.{length-falling}
 use Rattle.eigen.proofs.KeptLaws.{kept-few}
 
 -- the bands of the lent matrix, the QL step on them, and whether an index of it had a coupling left
-pub worked-is : (n : ℕ) (b t r d₀ e₀ d e : List Float) (w : Tally) → length t ≡ n * n → t ≡ tridiagonalOf n b → length d₀ ≡ n → length e₀ ≡ n
-    → d ≡ diagonalOf n (take (n * n) (t ++ r)) ++ drop n d₀ → e ≡ couplingsOf n (take (n * n) (t ++ r)) ++ drop n e₀ → w ≡ noWork
-    → (qlOf n n d e w ≡ workedOf n b) × (stuckOf n n d e w ≡ bandsStuck n (tridiagonalOf n b))
-unfolding bandsWorked bandsStuck
-worked-is n b t r d₀ e₀ d e w l h p q f g z =
-    let m : take (n * n) (t ++ r) ≡ tridiagonalOf n b = take-at t r (n * n) l ∙ h in
-    let u : length d₀ ≤ n = omega arith in
-    let v : length e₀ ≤ n = omega arith in
-    let x : d ≡ diagonalOf n (tridiagonalOf n b) = f ∙ rw (m, drop-of-length-le d₀ u) (append-nil (diagonalOf n (tridiagonalOf n b))) in
-    let y : e ≡ couplingsOf n (tridiagonalOf n b) = g ∙ rw (m, drop-of-length-le e₀ v) (append-nil (couplingsOf n (tridiagonalOf n b))) in
-    rw (x, y, z) (refl, refl)
+module _ (n : ℕ) (room t d₀ e₀ d e : List Float) (w : Tally) (l : length t ≡ triangle n) (p : length d₀ ≡ n) (q : length e₀ ≡ n) (z : w ≡ noWork) where
+  abbrev lent : List Float
+  lent = whole n (take (triangle n) room)
+
+  abbrev reduced : List Float
+  reduced = tridiagonalOf n lent
+
+  worked-from : t ≡ halfOf n reduced → d ≡ diagonalOf n (whole n (take (triangle n) (t ++ drop (triangle n) room))) ++ drop n d₀
+      → e ≡ couplingsOf n (whole n (take (triangle n) (t ++ drop (triangle n) room))) ++ drop n e₀ → (qlOf n n d e w ≡ workedOf n lent) × (stuckOf n n d e w ≡ bandsStuck n reduced)
+  unfolding bandsWorked bandsStuck
+  worked-from g f k =
+      let h = take (triangle n) room in
+      let m : whole n (take (triangle n) (t ++ drop (triangle n) room)) ≡ reduced =
+      ap (whole n) (take-at t (drop (triangle n) room) (triangle n) l ∙ g) ∙ whole-half n reduced (tridiagonal-long n lent (length-whole n h)) (tridiagonal-symmetric n lent (whole-symmetric n h)) in
+      let u : length d₀ ≤ n = omega arith in
+      let v : length e₀ ≤ n = omega arith in
+      let x : d ≡ diagonalOf n reduced = f ∙ rw (m, drop-of-length-le d₀ u) (append-nil (diagonalOf n reduced)) in
+      let y : e ≡ couplingsOf n reduced = k ∙ rw (m, drop-of-length-le e₀ v) (append-nil (couplingsOf n reduced)) in
+      rw (x, y, z) (refl, refl)
+
+  -- as the code has it, which works out where the triangle ends
+  pub worked-is : (m : ℕ) → m ≡ triangle n + 0 → t ≡ halfOf n (tridiagonalOf n (whole n (take m room))) → d ≡ diagonalOf n (whole n (take m (t ++ drop m room))) ++ drop n d₀
+      → e ≡ couplingsOf n (whole n (take m (t ++ drop m room))) ++ drop n e₀ → (t ≡ halfOf n reduced) × (qlOf n n d e w ≡ workedOf n lent) × (stuckOf n n d e w ≡ bandsStuck n reduced)
+  worked-is m o g f h = let x : m ≡ triangle n = omega arith in let y = rw x at g in let r = worked-from y (rw x at f) (rw x at h) in (y, r .0, r .1)
 
 -- 13, stage 3
 pub number-bad : (n k : ℕ) (b : List Float) (t : ℕ) → firstBad (numbersOf n b) ≡ At t → (deliveredOf n k b ≡ NumberNotFinite) × (deliveredNumbers n k b ≡ [])
@@ -60,16 +69,21 @@ numbers-good n k b d h e =
     within : (n k : ℕ) {m : ℕ} → m ≡ n → n - k ≤ m
     within n k h = omega arith
 
--- 13, stage 2; and where M A M is finite, what the QL step delivers
+-- 13, stage 2; and where M A M is finite, what the QL step delivers. The lower triangle decides which
 module _ (x : List Float) (inverse : List (List Float)) (n k : ℕ) where
-  pub matrix-bad : (t : ℕ) → firstBad (mamOf x inverse n k) ≡ At t → (spectrumOf x inverse n k ≡ MatrixNotFinite) × (keptNumbers x inverse n k ≡ []) × (frontOf x inverse n k ≡ mamOf x inverse n k)
+  pub matrix-bad : (t : ℕ) → firstBad (halfOf n (mamOf x inverse n k)) ≡ At t
+      → (spectrumOf x inverse n k ≡ MatrixNotFinite) × (keptNumbers x inverse n k ≡ []) × (frontOf x inverse n k ≡ halfOf n (mamOf x inverse n k))
   unfolding spectrumOf keptNumbers frontOf
-  matrix-bad t h = rw h (refl, refl, refl)
+  matrix-bad t h = go (firstBad (mamOf x inverse n k)) refl
+    where
+      go : (f : Found) → firstBad (mamOf x inverse n k) ≡ f → (spectrumOf x inverse n k ≡ MatrixNotFinite) × (keptNumbers x inverse n k ≡ []) × (frontOf x inverse n k ≡ halfOf n (mamOf x inverse n k))
+      go (At u) e = rw e (refl, refl, refl)
+      go Nothing e = absurd (half-not-finite n (product x inverse n k) t (ap firstBad (sym (half-symmetric n (product x inverse n k))) ∙ h) e)
 
-  pub matrix-good : firstBad (mamOf x inverse n k) ≡ Nothing
-      → (spectrumOf x inverse n k ≡ deliveredOf n k (mamOf x inverse n k)) × (keptNumbers x inverse n k ≡ deliveredNumbers n k (mamOf x inverse n k)) × (frontOf x inverse n k ≡ tridiagonalOf n (mamOf x inverse n k))
+  pub matrix-good : firstBad (halfOf n (mamOf x inverse n k)) ≡ Nothing
+      → (spectrumOf x inverse n k ≡ deliveredOf n k (mamOf x inverse n k)) × (keptNumbers x inverse n k ≡ deliveredNumbers n k (mamOf x inverse n k)) × (frontOf x inverse n k ≡ halfOf n (tridiagonalOf n (mamOf x inverse n k)))
   unfolding spectrumOf keptNumbers frontOf
-  matrix-good h = rw h (refl, refl, refl)
+  matrix-good h = rw (half-finite n (product x inverse n k) (ap firstBad (sym (half-symmetric n (product x inverse n k))) ∙ h)) (refl, refl, refl)
 
 -- ---- what callers use
 
@@ -117,37 +131,16 @@ kept-told x inverse n k s h = go (firstBad (mamOf x inverse n k)) h
     go (At t) e = absurd (clash e)
     go Nothing e = delivered-told n k (mamOf x inverse n k) s e
 
--- ---- the room beyond its first 2n² numbers stays
+-- ---- the room beyond its first n (n + 1) numbers stays
 
-either-length : (p q : Bool) (a z : List Float) (m : ℕ) → length a ≡ m → length z ≡ m → length (cond p a (cond q a z)) ≡ m
-either-length true q a z m h g = h
-either-length false true a z m h g = h
-either-length false false a z m h g = g
-
-length-reflected : (n c : ℕ) (a : List Float) → length a ≡ n * n → length (reflected n c a) ≡ n * n
-unfolding reflected
-length-reflected n c a h =
-    let x = columnOf n c a in
-    let v = normalOf x in
-    let q = correctionOf v (imageOf n c a v) (sumSquares v) in
-    either-length (eq (normOf x) plusZero) (eq (sumSquares v) plusZero) a (square (reflectedEntry n c a (alphaOf x) v q) n) (n * n) h
-    (length-table (λ (p : ℕ). reflectedEntry n c a (alphaOf x) v q (p / n) (p % n)) (n * n))
-
-length-tridiagonal : (n : ℕ) (a : List Float) → length a ≡ n * n → length (tridiagonalOf n a) ≡ n * n
-length-tridiagonal n a h = turns-keep (reflected n) (λ z. length z ≡ n * n) (n - 2) (λ c z l e. length-reflected n c z e) a h
-
-length-front : (x : List Float) (inverse : List (List Float)) (n k : ℕ) → length (frontOf x inverse n k) ≡ n * n
+length-front : (x : List Float) (inverse : List (List Float)) (n k : ℕ) → length (frontOf x inverse n k) ≡ triangle n
 unfolding frontOf
-length-front x inverse n k = go (firstBad (mamOf x inverse n k))
-  where
-    go : (f : Found) → length (frontBy f n (mamOf x inverse n k)) ≡ n * n
-    go (At t) = length-symmetric n (product x inverse n k)
-    go Nothing = length-tridiagonal n (mamOf x inverse n k) (length-symmetric n (product x inverse n k))
+length-front x inverse n k = length-half (entry n (frontBy (firstBad (mamOf x inverse n k)) n (mamOf x inverse n k))) n
 
 pub beyond : (x : List Float) (inverse : List (List Float)) (n k : ℕ) (room end : List Float)
-    → end ≡ frontOf x inverse n k ++ (residualMaker x inverse n k ++ drop (n * n + n * n) room) → drop (2 * (n * n)) end ≡ drop (2 * (n * n)) room
+    → end ≡ frontOf x inverse n k ++ (halfOf n (residualMaker x inverse n k) ++ drop (n * (n + 1)) room) → drop (n * (n + 1)) end ≡ drop (n * (n + 1)) room
 beyond x inverse n k room end h =
-    let t : 2 * (n * n) ≡ n * n + n * n = omega arith in
-    rw (t, h) (sym (drop-drop (n * n) (n * n) (frontOf x inverse n k ++ (residualMaker x inverse n k ++ drop (n * n + n * n) room)))
-    ∙ ap (drop (n * n)) (drop-at (frontOf x inverse n k) _ (n * n) (length-front x inverse n k))
-    ∙ drop-at (residualMaker x inverse n k) (drop (n * n + n * n) room) (n * n) (length-symmetric n (residual x inverse n k)))
+    ap (λ (m : ℕ). drop m end) (sym (triangle-twice n)) ∙ sym (drop-drop (triangle n) (triangle n) end)
+    ∙ ap (λ e. drop (triangle n) (drop (triangle n) e)) h
+    ∙ ap (drop (triangle n)) (drop-at (frontOf x inverse n k) _ (triangle n) (length-front x inverse n k))
+    ∙ drop-at (halfOf n (residualMaker x inverse n k)) (drop (n * (n + 1)) room) (triangle n) (length-half (entry n (residualMaker x inverse n k)) n)

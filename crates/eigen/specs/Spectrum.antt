@@ -7,6 +7,7 @@ use mathlib.Core.List.{List, []}
 use lib.Ieee.{Float}
 use lib.ListN.{length}
 use Rattle.floats.specs.Count.{noWork}
+use Rattle.floats.specs.Matrix.{halfOf}
 use Rattle.floats.specs.Search.{firstBad}
 use Rattle.floats.specs.declared.tally.Tally.{Tally}
 use Rattle.floats.specs.declared.search.Found.{Found}
@@ -66,10 +67,10 @@ spectrumOf x inverse n k = spectrumBy (firstBad (mamOf x inverse n k)) n k (mamO
 unfoldable pub keptNumbers : List Float → List (List Float) → ℕ → ℕ → List Float
 keptNumbers x inverse n k = numbersBy (firstBad (mamOf x inverse n k)) n k (mamOf x inverse n k)
 
--- what the first n² numbers of the matrix room hold at the end: M A M, tridiagonal where it was finite
+-- what the first n (n + 1) / 2 numbers of the matrix room hold at the end: the lower triangle of M A M, made tridiagonal where it was finite
 abbrev pub frontBy : Found → ℕ → List Float → List Float
 frontBy (At t) n b = b
 frontBy Nothing n b = tridiagonalOf n b
 
 unfoldable pub frontOf : List Float → List (List Float) → ℕ → ℕ → List Float
-frontOf x inverse n k = frontBy (firstBad (mamOf x inverse n k)) n (mamOf x inverse n k)
+frontOf x inverse n k = halfOf n (frontBy (firstBad (mamOf x inverse n k)) n (mamOf x inverse n k))

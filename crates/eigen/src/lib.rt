@@ -3,8 +3,9 @@ ghost use mathlib.Core.Path.{_≡_};
 ghost use mathlib.Core.List.{_++_};
 ghost use Prim.Native.Nat.{_+_, _*_, _≤_, _<_};
 ghost use lib.ListN.{length, take, drop};
+ghost use Rattle.floats.specs.Tables.{triangle};
+ghost use Rattle.floats.specs.Matrix.{whole, halfOf};
 ghost use Rattle.projection.specs.Projection.{residualMaker};
-ghost use Rattle.floats.specs.Matrix.{Symmetric};
 ghost use Rattle.tridiagonal.specs.Reflection.{tridiagonalOf};
 ghost use Rattle.eigen.specs.Spectrum.{deliveredOf, deliveredNumbers, spectrumOf, keptNumbers, frontOf};
 
@@ -28,7 +29,7 @@ pub enum Spectrum {
     Kept(Numbers),
 }
 
-// The eigenvalues of the symmetric matrix in the first n² numbers of the room. `d` and `e` are room for its bands, n numbers each.
+// The eigenvalues of the symmetric matrix whose lower triangle is in the first n (n + 1) / 2 numbers of the room. `d` and `e` are room for its bands, n numbers each.
 fn delivered(
     room: &mut [f64],
     n: usize,
@@ -37,12 +38,12 @@ fn delivered(
     e: &mut [f64],
     kept: &mut [f64],
 ) -> Spectrum
-    requires { ⌜ (n * n ≤ length (now room)) × (n ≤ 256) × (k ≤ n) × (Symmetric n (take (n * n) (now room))) × (length (now d) ≡ n) × (length (now e) ≡ n) × (n ≤ length (now kept)) ⌝ }
-    ensures { λ r. ⌜ r ≡ deliveredOf n k (take (n * n) (now (room .entry))) ⌝ }
-    ensures { λ _. ⌜ now (room .exit) ≡ tridiagonalOf n (take (n * n) (now (room .entry))) ++ drop (n * n) (now (room .entry)) ⌝ }
-    ensures { λ _. ⌜ now (kept .exit) ≡ deliveredNumbers n k (take (n * n) (now (room .entry))) ++ drop (length (deliveredNumbers n k (take (n * n) (now (room .entry))))) (now (kept .entry)) ⌝ }
+    requires { ⌜ (triangle n ≤ length (now room)) × (n ≤ 256) × (k ≤ n) × (length (now d) ≡ n) × (length (now e) ≡ n) × (n ≤ length (now kept)) ⌝ }
+    ensures { λ r. ⌜ r ≡ deliveredOf n k (whole n (take (triangle n) (now (room .entry)))) ⌝ }
+    ensures { λ _. ⌜ now (room .exit) ≡ halfOf n (tridiagonalOf n (whole n (take (triangle n) (now (room .entry))))) ++ drop (triangle n) (now (room .entry)) ⌝ }
+    ensures { λ _. ⌜ now (kept .exit) ≡ deliveredNumbers n k (whole n (take (triangle n) (now (room .entry)))) ++ drop (length (deliveredNumbers n k (whole n (take (triangle n) (now (room .entry)))))) (now (kept .entry)) ⌝ }
 {
-    let half = n * n;
+    let half = rows::half::place(n, 0);
     tridiagonal::tridiagonalize(&mut room[..half], n);
     tridiagonal::bands(&room[..half], n, d, e);
     let swept = ql::ql(d, e, n, Tally::new());
@@ -59,7 +60,7 @@ fn delivered(
     }
 }
 
-// The kept eigenvalues into the front of `kept`, how many, and the sweeps. The first 2n² numbers of the room are worked in.
+// The kept eigenvalues into the front of `kept`, how many, and the sweeps. The first n (n + 1) numbers of the room are worked in.
 pub fn ma_eigenvalues(
     columns: &[f64],
     n: usize,
@@ -68,10 +69,10 @@ pub fn ma_eigenvalues(
     room: &mut [f64],
     kept: &mut [f64],
 ) -> Spectrum
-    requires { ⌜ (n ≤ 256) × (k ≤ 8) × (k ≤ n) × (k * n ≡ length (now columns)) × (2 * (n * n) ≤ length (now room)) × (n ≤ length (now kept)) ⌝ }
+    requires { ⌜ (n ≤ 256) × (k ≤ 8) × (k ≤ n) × (k * n ≡ length (now columns)) × (n * (n + 1) ≤ length (now room)) × (n ≤ length (now kept)) ⌝ }
     ensures { λ r. ⌜ r ≡ spectrumOf (now (columns .entry)) inverse n k ⌝ }
     ensures { λ _. ⌜ now (kept .exit) ≡ keptNumbers (now (columns .entry)) inverse n k ++ drop (length (keptNumbers (now (columns .entry)) inverse n k)) (now (kept .entry)) ⌝ }
-    ensures { λ _. ⌜ now (room .exit) ≡ frontOf (now (columns .entry)) inverse n k ++ (residualMaker (now (columns .entry)) inverse n k ++ drop (n * n + n * n) (now (room .entry))) ⌝ }
+    ensures { λ _. ⌜ now (room .exit) ≡ frontOf (now (columns .entry)) inverse n k ++ (halfOf n (residualMaker (now (columns .entry)) inverse n k) ++ drop (n * (n + 1)) (now (room .entry))) ⌝ }
 {
     let found = projection::mam(room, columns, inverse, n, k);
     match found {

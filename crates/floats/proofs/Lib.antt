@@ -8,3 +8,4 @@ pub mod TotalOrder
 pub mod RowLaws
 pub mod MatrixLaws
 pub mod Commutes
+pub mod HalfLaws

@@ -1,4 +1,5 @@
 pub mod IdentityLaws
 pub mod TriangleLaws
 pub mod ProjectionLaws
+pub mod ProductLaws
 pub mod RoomLaws

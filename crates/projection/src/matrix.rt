@@ -1,22 +1,22 @@
-// Matrices of n rows and n columns in a lent run, row after row.
+// Symmetric matrices of n rows, of which a lent run holds the lower triangle.
 ghost use mathlib.Core.Path.{_≡_};
-ghost use mathlib.Core.Bool.{cond, _&&_};
+ghost use mathlib.Core.Bool.{cond};
 ghost use Prim.Native.Nat.{_+_, _*_, _≤_, _<_};
-ghost use lib.Dec.{leb, eqb};
+ghost use lib.Dec.{eqb};
 ghost use lib.ListN.{length};
 ghost use lib.Ieee.{neg};
-ghost use Rattle.floats.specs.Words.{_⊕_, _⊖_, _⊗_, _‼_, one};
-ghost use Rattle.floats.specs.Tables.{table, square};
-ghost use Rattle.floats.specs.Matrix.{entry};
+ghost use Rattle.floats.specs.Words.{_⊕_, _⊖_, _⊗_, _‼_, plusZero, one};
+ghost use Rattle.floats.specs.Tables.{table, triangle, half, withPart};
+ghost use Rattle.floats.specs.Matrix.{halfEntry};
 ghost use Rattle.rows.specs.Terms.{Reach, sumFrom};
 
 // Adds to row i, up to the diagonal, the runs in `xs`, each `stride` on from the one before, each times its number of
 // `w`.
-pub fn add_to_row(a: &mut [f64], n: usize, i: usize, xs: &[f64], stride: usize, w: &[f64])
-    requires { ⌜ (length (now a) ≡ n * n) × (i < n) × (Reach (length (now w)) stride (i + 1) (length (now xs))) ⌝ }
-    ensures { λ _. ⌜ now (a .exit) ≡ square (λ r c. cond (eqb r i && leb c i) (sumFrom (entry n (now (a .entry)) r c) (length (now (w .entry))) (λ s. now (xs .entry) ‼ (s * stride + c) ⊗ now (w .entry) ‼ s)) (entry n (now (a .entry)) r c)) n ⌝ }
+pub fn add_to_row(a: &mut [f64], i: usize, xs: &[f64], stride: usize, w: &[f64])
+    requires { ⌜ (i < 256) × (triangle (i + 1) ≤ length (now a)) × (Reach (length (now w)) stride (i + 1) (length (now xs))) ⌝ }
+    ensures { λ _. ⌜ now (a .exit) ≡ withPart (triangle i) (triangle i + (i + 1)) (now (a .entry)) (table (λ c. sumFrom (now (a .entry) ‼ (triangle i + c)) (length (now (w .entry))) (λ s. now (xs .entry) ‼ (s * stride + c) ⊗ now (w .entry) ‼ s)) (i + 1)) ⌝ }
 {
-    let start = rows::matrix::place(n, i, 0);
+    let start = rows::half::place(i, 0);
     let end = start + (i + 1);
     rows::add_terms(&mut a[start..end], xs, stride, w);
 }
@@ -32,33 +32,36 @@ pub fn negate(a: &mut [f64])
 
 // Adds 1 to the entries on the diagonal.
 pub fn add_identity(a: &mut [f64], n: usize)
-    requires { ⌜ length (now a) ≡ n * n ⌝ }
-    ensures { λ _. ⌜ now (a .exit) ≡ square (λ i j. cond (eqb i j) (one ⊕ entry n (now (a .entry)) i j) (entry n (now (a .entry)) i j)) n ⌝ }
+    requires { ⌜ (length (now a) ≡ triangle n) × (n ≤ 256) ⌝ }
+    ensures { λ _. ⌜ now (a .exit) ≡ half (λ i j. cond (eqb i j) (one ⊕ halfEntry (now (a .entry)) i j) (halfEntry (now (a .entry)) i j)) n ⌝ }
 {
     for i in 0..n {
-        let p = rows::matrix::place(n, i, i);
+        let p = rows::half::place(i, i);
         a[p] = 1.0 + a[p];
     }
 }
 
-// Adds the differences of `xs` and `ys` to the numbers of `row`.
-fn add_difference(row: &mut [f64], xs: &[f64], ys: &[f64])
+// The numbers of `row` become the differences of `xs` and `ys`, each added to +0.
+pub fn set_difference(row: &mut [f64], xs: &[f64], ys: &[f64])
     requires { ⌜ (length (now row) ≤ length (now xs)) × (length (now row) ≤ length (now ys)) ⌝ }
-    ensures { λ _. ⌜ now (row .exit) ≡ table (λ j. now (row .entry) ‼ j ⊕ (now (xs .entry) ‼ j ⊖ now (ys .entry) ‼ j)) (length (now (row .entry))) ⌝ }
+    ensures { λ _. ⌜ now (row .exit) ≡ table (λ j. plusZero ⊕ (now (xs .entry) ‼ j ⊖ now (ys .entry) ‼ j)) (length (now (row .entry))) ⌝ }
 {
     for j in 0..row.len() {
-        row[j] = row[j] + (xs[j] - ys[j]);
+        row[j] = 0.0 + (xs[j] - ys[j]);
     }
 }
 
-// Adds row t of M less its row s.
-pub fn add_row_difference(w: &mut [f64], m: &[f64], n: usize, t: usize, s: usize)
-    requires { ⌜ (length (now w) ≡ n) × (length (now m) ≡ n * n) × (t < n) × (s < n) ⌝ }
-    ensures { λ _. ⌜ now (w .exit) ≡ table (λ j. now (w .entry) ‼ j ⊕ (entry n (now (m .entry)) t j ⊖ entry n (now (m .entry)) s j)) n ⌝ }
+// Adds the differences of `here` and `next` to the numbers of `row`; then `before` is `here`, and `here` is `next`.
+pub fn step_on(row: &mut [f64], before: &mut [f64], here: &mut [f64], next: &[f64])
+    requires { ⌜ (length (now before) ≡ length (now row)) × (length (now here) ≡ length (now row)) × (length (now next) ≡ length (now row)) ⌝ }
+    ensures { λ _. ⌜ now (row .exit) ≡ table (λ j. now (row .entry) ‼ j ⊕ (now (here .entry) ‼ j ⊖ now (next .entry) ‼ j)) (length (now (row .entry))) ⌝ }
+    ensures { λ _. ⌜ (now (before .exit) ≡ now (here .entry)) × (now (here .exit) ≡ now (next .entry)) ⌝ }
 {
-    let here = rows::matrix::place(n, t, 0);
-    let there = rows::matrix::place(n, s, 0);
-    let here_end = here + n;
-    let there_end = there + n;
-    add_difference(w, &m[here..here_end], &m[there..there_end]);
+    for j in 0..row.len() {
+        let x = here[j];
+        let y = next[j];
+        row[j] = row[j] + (x - y);
+        before[j] = x;
+        here[j] = y;
+    }
 }

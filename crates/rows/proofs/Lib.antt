@@ -1,2 +1,3 @@
 pub mod TermLaws
-mod MirrorLaws
+pub mod StepLaws
+mod CopyLaws

@@ -1,6 +1,6 @@
 -- Laws of sums that go on: none, one more, and that the terms may be added in groups. Assumes nothing.
 use Prim.Native.Nat.{ℕ, zero, suc, _+_, _-_, _*_, _≤_, _<_}
-use native.Mathlib.Nat.{mul-le-mul-right, add-mul, zero-add}
+use native.Mathlib.Nat.{mul-le-mul-right, add-mul}
 use native.Mathlib.Numerals.{add-one}
 use native.Mathlib.Omega.{arith}
 use mathlib.Core.Path.{_≡_, refl, ap, sym, _∙_}
@@ -9,9 +9,9 @@ use lib.ListN.{length, set, drop}
 use lib.Seq.{ext-getD, take-at, drop-at, drop-drop}
 use lib.Ieee.{Float, nan}
 use Rattle.floats.specs.Words.{_⊕_, _⊗_, _‼_, minusZero}
-use Rattle.floats.specs.Sums.{sumOf, sumProducts}
+use Rattle.floats.specs.Sums.{sumOf}
 use Rattle.floats.specs.Tables.{table, part, withPart}
-use Rattle.floats.proofs.ListLaws.{getD-part, sum-same}
+use Rattle.floats.proofs.ListLaws.{getD-part}
 use Rattle.floats.proofs.RowLaws.{filled, filled-more, filled-all}
 use Rattle.floats.proofs.TableLaws.{length-table, getD-table}
 use Rattle.floats.proofs.MatrixLaws.{table-same}
@@ -48,28 +48,6 @@ sum-from (suc k) f = rw (sum-from k f)
 pub sum-group : (t k : ℕ) (f : ℕ → Float) → sumFrom (sumOf t f) k (λ s. f (t + s)) ≡ sumOf (t + k) f
 sum-group t k f = ap (λ x. sumFrom x k (λ s. f (t + s))) (sym (sum-from t f)) ∙ from-group minusZero f t k ∙ sum-from (t + k) f
 
--- ---- sums side by side
-
--- term j of the sum of products of run s with v
-unfoldable pub dotTerm : List Float → ℕ → List Float → ℕ → ℕ → Float
-dotTerm xs stride v s j = xs ‼ (s * stride + j) ⊗ v ‼ j
-
-pub dot-more : (xs : List Float) (stride : ℕ) (v : List Float) (s j p : ℕ) → p ≡ s * stride + j → sumOf j (dotTerm xs stride v s) ⊕ xs ‼ p ⊗ v ‼ j ≡ sumOf (j + 1) (dotTerm xs stride v s)
-unfolding sumOf dotTerm
-dot-more xs stride v s j p e = rw (e, add-one j)
-
--- eight numbers stored into a run of eight
-pub eight-stored : (f : ℕ → Float) (p : List Float) → length p ≡ 8
-    → set (set (set (set (set (set (set (set p 0 (f 0)) 1 (f 1)) 2 (f 2)) 3 (f 3)) 4 (f 4)) 5 (f 5)) 6 (f 6)) 7 (f 7) ≡ table f 8
-unfolding table
-eight-stored f p e =
-    ap (λ q. set (set (set (set (set (set (set q 1 (f 1)) 2 (f 2)) 3 (f 3)) 4 (f 4)) 5 (f 5)) 6 (f 6)) 7 (f 7)) (filled-more f p 0 nan (omega arith))
-    ∙ ap (λ q. set (set (set (set (set (set q 2 (f 2)) 3 (f 3)) 4 (f 4)) 5 (f 5)) 6 (f 6)) 7 (f 7)) (filled-more f p 1 nan (omega arith))
-    ∙ ap (λ q. set (set (set (set (set q 3 (f 3)) 4 (f 4)) 5 (f 5)) 6 (f 6)) 7 (f 7)) (filled-more f p 2 nan (omega arith))
-    ∙ ap (λ q. set (set (set (set q 4 (f 4)) 5 (f 5)) 6 (f 6)) 7 (f 7)) (filled-more f p 3 nan (omega arith))
-    ∙ ap (λ q. set (set (set q 5 (f 5)) 6 (f 6)) 7 (f 7)) (filled-more f p 4 nan (omega arith)) ∙ ap (λ q. set (set q 6 (f 6)) 7 (f 7)) (filled-more f p 5 nan (omega arith))
-    ∙ ap (λ q. set q 7 (f 7)) (filled-more f p 6 nan (omega arith)) ∙ filled-more f p 7 nan (omega arith) ∙ filled-all f p 8 (omega arith) (omega arith) ∙ rw e
-
 -- ---- k runs from run t on
 
 -- the last of k + 1 runs from run t on
@@ -95,62 +73,55 @@ module _ (stride t k m : ℕ) (xs : List Float) (start : ℕ) (p : start ≡ t *
 
 -- ---- four terms, four at a time
 
-pub four-of : (x : Float) (xs w : List Float) (at stride s : ℕ) →
-    x ⊕ xs ‼ at ⊗ w ‼ s ⊕ xs ‼ (at + stride) ⊗ w ‼ (s + 1) ⊕ xs ‼ (at + 2 * stride) ⊗ w ‼ (s + 2) ⊕ xs ‼ (at + 3 * stride) ⊗ w ‼ (s + 3) ≡ sumFrom x 4 (λ t. xs ‼ (at + t * stride) ⊗ w ‼ (s + t))
+pub four-of : (x : Float) (xs w : List Float) (place : ℕ → ℕ) (a b c d s : ℕ) → place 0 ≡ a → place 1 ≡ b → place 2 ≡ c → place 3 ≡ d
+    → x ⊕ xs ‼ a ⊗ w ‼ s ⊕ xs ‼ b ⊗ w ‼ (s + 1) ⊕ xs ‼ c ⊗ w ‼ (s + 2) ⊕ xs ‼ d ⊗ w ‼ (s + 3) ≡ sumFrom x 4 (λ t. xs ‼ place t ⊗ w ‼ (s + t))
 unfolding sumFrom
-four-of x xs w at stride s =
-    let a : at + 0 * stride ≡ at = omega arith in
-    let b : at + 1 * stride ≡ at + stride = omega arith in
-    let c : s + 0 ≡ s = omega arith in
-    rw (a, b, c)
+four-of x xs w place a b c d s e f g h = let z : s + 0 ≡ s = omega arith in rw (e, f, g, h, z)
 
-module _ (x : Float) (xs w : List Float) (stride j : ℕ) where
-  abbrev along : ℕ → Float
-  along s = xs ‼ (s * stride + j) ⊗ w ‼ s
+-- four more after k, run s beginning at `start s`
+pub four-more : (x : Float) (xs w : List Float) (start : ℕ → ℕ) (j k : ℕ) (place : ℕ → ℕ) (a b : Float) → b ≡ sumFrom a 4 (λ t. xs ‼ place t ⊗ w ‼ (k + t))
+    → a ≡ sumFrom x k (λ s. xs ‼ (start s + j) ⊗ w ‼ s) → ((t : ℕ) → place t ≡ start (k + t) + j) → b ≡ sumFrom x (k + 4) (λ s. xs ‼ (start s + j) ⊗ w ‼ s)
+four-more x xs w start j k place a b p q r =
+    p ∙ rw q (from-same _ 4 _ _ (λ t h. rw (r t))) ∙ from-group x (λ s. xs ‼ (start s + j) ⊗ w ‼ s) k 4
 
-  -- the first four, and four more after k
-  pub four-first : (a : Float) → a ≡ sumFrom x 4 (λ t. xs ‼ (j + t * stride) ⊗ w ‼ (0 + t)) → a ≡ sumFrom x 4 along
-  four-first a p = p ∙ from-same x 4 _ along (λ t h. let e : j + t * stride ≡ t * stride + j = omega arith in rw (e, zero-add))
+-- ---- the terms of a row of sums, group by group, run s beginning at `start s`
 
-  pub four-more : (k at : ℕ) (a b : Float) → at ≡ k * stride + j → a ≡ sumFrom x k along → b ≡ sumFrom a 4 (λ t. xs ‼ (at + t * stride) ⊗ w ‼ (k + t)) → b ≡ sumFrom x (k + 4) along
-  four-more k at a b p q r =
-      r ∙ rw q (from-same (sumFrom x k along) 4 _ _ (λ t h. let y = add-mul k t stride in let e : at + t * stride ≡ (k + t) * stride + j = omega arith in rw e)) ∙ from-group x along k 4
+module _ (row xs : List Float) (start : ℕ → ℕ) (w : List Float) where
+  -- term s of number j
+  abbrev term : ℕ → ℕ → Float
+  term j s = xs ‼ (start s + j) ⊗ w ‼ s
 
--- ---- the terms of a row of sums, group by group
-
-module _ (row xs : List Float) (stride : ℕ) (w : List Float) where
   -- what t terms make of the row
   unfoldable pub termsTo : ℕ → List Float
-  termsTo t = table (λ j. sumFrom (row ‼ j) t (λ s. xs ‼ (s * stride + j) ⊗ w ‼ s)) (length row)
+  termsTo t = table (λ j. sumFrom (row ‼ j) t (term j)) (length row)
 
   pub length-terms : (t : ℕ) → length (termsTo t) ≡ length row
   unfolding termsTo
   length-terms t = length-table _ (length row)
 
-  at-terms : (t j : ℕ) → j < length row → termsTo t ‼ j ≡ sumFrom (row ‼ j) t (λ s. xs ‼ (s * stride + j) ⊗ w ‼ s)
+  at-terms : (t j : ℕ) → j < length row → termsTo t ‼ j ≡ sumFrom (row ‼ j) t (term j)
   unfolding termsTo
   at-terms t j h = getD-table _ (length row) j nan h
 
   pub terms-none : row ≡ termsTo 0
-  terms-none = ext-getD nan row (termsTo 0) (sym (length-terms 0)) (λ j h. sym (at-terms 0 j h ∙ from-none (row ‼ j) (λ s. xs ‼ (s * stride + j) ⊗ w ‼ s)))
+  terms-none = ext-getD nan row (termsTo 0) (sym (length-terms 0)) (λ j h. sym (at-terms 0 j h ∙ from-none (row ‼ j) (term j)))
 
-  pub terms-group : (t k : ℕ) → table (λ j. sumFrom (termsTo t ‼ j) k (λ s. xs ‼ ((t + s) * stride + j) ⊗ w ‼ (t + s))) (length (termsTo t)) ≡ termsTo (t + k)
+  pub terms-group : (t k : ℕ) → table (λ j. sumFrom (termsTo t ‼ j) k (λ s. xs ‼ (start (t + s) + j) ⊗ w ‼ (t + s))) (length (termsTo t)) ≡ termsTo (t + k)
   unfolding termsTo
   terms-group t k =
-      ap (table (λ j. sumFrom (termsTo t ‼ j) k (λ s. xs ‼ ((t + s) * stride + j) ⊗ w ‼ (t + s)))) (length-terms t)
-      ∙ table-same _ _ (length row)
-      (λ j h. ap (λ x. sumFrom x k (λ s. xs ‼ ((t + s) * stride + j) ⊗ w ‼ (t + s))) (at-terms t j h) ∙ from-group (row ‼ j) (λ s. xs ‼ (s * stride + j) ⊗ w ‼ s) t k)
+      ap (table (λ j. sumFrom (termsTo t ‼ j) k (λ s. term j (t + s)))) (length-terms t)
+      ∙ table-same _ _ (length row) (λ j h. ap (λ x. sumFrom x k (λ s. term j (t + s))) (at-terms t j h) ∙ from-group (row ‼ j) (term j) t k)
 
-  pub terms-one : (t start : ℕ) → start ≡ t * stride → t * stride + length row ≤ length xs
-      → table (λ j. termsTo t ‼ j ⊕ part start (start + length (termsTo t)) xs ‼ j ⊗ w ‼ t) (length (termsTo t)) ≡ termsTo (t + 1)
+  pub terms-one : (t a : ℕ) → a ≡ start t → start t + length row ≤ length xs
+      → table (λ j. termsTo t ‼ j ⊕ part a (a + length (termsTo t)) xs ‼ j ⊗ w ‼ t) (length (termsTo t)) ≡ termsTo (t + 1)
   unfolding termsTo
-  terms-one t start e z =
+  terms-one t a e z =
       let o = length-terms t in
-      ap (table (λ j. termsTo t ‼ j ⊕ part start (start + length (termsTo t)) xs ‼ j ⊗ w ‼ t)) o
+      ap (table (λ j. termsTo t ‼ j ⊕ part a (a + length (termsTo t)) xs ‼ j ⊗ w ‼ t)) o
       ∙ table-same _ _ (length row)
-      (λ j h. rw (at-terms t j h, getD-part xs {a = start} {e = start + length (termsTo t)} (omega arith) (omega arith) j nan (omega arith), e) (sym (from-more (row ‼ j) (λ s. xs ‼ (s * stride + j) ⊗ w ‼ s) t)))
+      (λ j h. rw (at-terms t j h, getD-part xs {a = a} {e = a + length (termsTo t)} (omega arith) (omega arith) j nan (omega arith), e) (sym (from-more (row ‼ j) (term j) t)))
 
--- ---- runs of sums, eight at a time
+-- ---- numbers stored a few at a time
 
 table-group : (f : ℕ → Float) (t k : ℕ) → table f (t + k) ≡ table f t ++ table (λ s. f (t + s)) k
 unfolding table
@@ -163,17 +134,14 @@ filled-group f p ys t e k q y =
     let z : t + k - t ≡ k = omega arith in
     rw (q, y, z, take-at (table f t) (drop t p) t (length-table f t), drop-at (table f t) (drop t p) t (length-table f t), table-group f t k, append-assoc, drop-drop)
 
-module _ (xs : List Float) (stride : ℕ) (v : List Float) where
-  -- sum s
-  unfoldable pub dot : ℕ → Float
-  dot s = sumOf (length v) (λ j. xs ‼ (s * stride + j) ⊗ v ‼ j)
-
-  pub eight-sums : (t start : ℕ) → start ≡ t * stride → t * stride + (7 * stride + length v) ≤ length xs
-      → table (λ s. sumOf (length v) (λ j. part start (start + (7 * stride + length v)) xs ‼ (s * stride + j) ⊗ v ‼ j)) 8 ≡ table (λ s. dot (t + s)) 8
-  unfolding dot
-  eight-sums t start p z =
-      table-same _ _ 8 (λ s h. sum-same (length v) _ _ (λ j l. ap (λ x. x ⊗ v ‼ j) (in-part stride t 7 (length v) xs start p z s j h l)))
-
-  pub one-sum : (t m : ℕ) → m ≡ length v → sumProducts xs (t * stride) v 0 m ≡ dot t
-  unfolding dot
-  one-sum t m e = rw e (sum-same (length v) _ _ (λ j l. rw zero-add))
+-- eight numbers stored into a run of eight
+pub eight-stored : (f : ℕ → Float) (p : List Float) → length p ≡ 8
+    → set (set (set (set (set (set (set (set p 0 (f 0)) 1 (f 1)) 2 (f 2)) 3 (f 3)) 4 (f 4)) 5 (f 5)) 6 (f 6)) 7 (f 7) ≡ table f 8
+unfolding table
+eight-stored f p e =
+    ap (λ q. set (set (set (set (set (set (set q 1 (f 1)) 2 (f 2)) 3 (f 3)) 4 (f 4)) 5 (f 5)) 6 (f 6)) 7 (f 7)) (filled-more f p 0 nan (omega arith))
+    ∙ ap (λ q. set (set (set (set (set (set q 2 (f 2)) 3 (f 3)) 4 (f 4)) 5 (f 5)) 6 (f 6)) 7 (f 7)) (filled-more f p 1 nan (omega arith))
+    ∙ ap (λ q. set (set (set (set (set q 3 (f 3)) 4 (f 4)) 5 (f 5)) 6 (f 6)) 7 (f 7)) (filled-more f p 2 nan (omega arith))
+    ∙ ap (λ q. set (set (set (set q 4 (f 4)) 5 (f 5)) 6 (f 6)) 7 (f 7)) (filled-more f p 3 nan (omega arith))
+    ∙ ap (λ q. set (set (set q 5 (f 5)) 6 (f 6)) 7 (f 7)) (filled-more f p 4 nan (omega arith)) ∙ ap (λ q. set (set q 6 (f 6)) 7 (f 7)) (filled-more f p 5 nan (omega arith))
+    ∙ ap (λ q. set q 7 (f 7)) (filled-more f p 6 nan (omega arith)) ∙ filled-more f p 7 nan (omega arith) ∙ filled-all f p 8 (omega arith) (omega arith) ∙ rw e

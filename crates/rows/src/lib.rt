@@ -1,17 +1,16 @@
-// Runs of numbers, each worked over first to last, and matrices in a run, row after row.
+// Runs of numbers, each worked over first to last, and symmetric matrices of which a run holds half (`half`).
 //
 // The order of each sum is fixed; the order of the work is not. `add_terms` adds the terms of many sums at once, a
-// term of each before the next, so that the compiler can take several numbers at once; `dots` works out a few sums
-// of many terms side by side.
+// term of each before the next, so that the compiler can take several numbers at once; `half::row_dots` works out a
+// few sums of many terms side by side.
 ghost use mathlib.Core.Path.{_≡_};
 ghost use Prim.Native.Nat.{_+_, _*_, _≤_, _<_};
 ghost use lib.ListN.{length};
 ghost use Rattle.floats.specs.Words.{_⊕_, _⊗_, _‼_};
-ghost use Rattle.floats.specs.Sums.{sumOf};
 ghost use Rattle.floats.specs.Tables.{table};
 ghost use Rattle.rows.specs.Terms.{Reach, sumFrom};
 
-pub mod matrix;
+pub mod half;
 
 // Every number of `row` becomes x.
 pub fn fill(row: &mut [f64], x: f64)
@@ -123,62 +122,6 @@ pub fn add_terms(row: &mut [f64], xs: &[f64], stride: usize, w: &[f64])
             let start = t * stride;
             let end = start + row.len();
             add_one(row, &xs[start..end], w[t]);
-            t = t + 1;
-        }
-    }
-}
-
-// The sums of the products of eight runs in `xs`, each `stride` on from the one before, with `v`. They are read in an
-// order as that of `four_terms`.
-fn eight_dots(p: &mut [f64], xs: &[f64], stride: usize, v: &[f64])
-    requires { ⌜ (length (now p) ≡ 8) × (7 * stride + length (now v) ≤ length (now xs)) ⌝ }
-    ensures { λ _. ⌜ now (p .exit) ≡ table (λ s. sumOf (length (now (v .entry))) (λ j. now (xs .entry) ‼ (s * stride + j) ⊗ now (v .entry) ‼ j)) 8 ⌝ }
-{
-    let mut a = -0.0f64;
-    let mut b = -0.0f64;
-    let mut c = -0.0f64;
-    let mut d = -0.0f64;
-    let mut e = -0.0f64;
-    let mut f = -0.0f64;
-    let mut g = -0.0f64;
-    let mut h = -0.0f64;
-    for j in 0..v.len() {
-        let x = v[j];
-        a = a + xs[j] * x;
-        e = e + xs[4 * stride + j] * x;
-        c = c + xs[2 * stride + j] * x;
-        g = g + xs[6 * stride + j] * x;
-        b = b + xs[stride + j] * x;
-        f = f + xs[5 * stride + j] * x;
-        d = d + xs[3 * stride + j] * x;
-        h = h + xs[7 * stride + j] * x;
-    }
-    p[0] = a;
-    p[1] = b;
-    p[2] = c;
-    p[3] = d;
-    p[4] = e;
-    p[5] = f;
-    p[6] = g;
-    p[7] = h;
-}
-
-// The sums of the products of the runs in `xs`, each `stride` on from the one before, with `v`: one for each number of `p`.
-pub fn dots(p: &mut [f64], xs: &[f64], stride: usize, v: &[f64])
-    requires { ⌜ Reach (length (now p)) stride (length (now v)) (length (now xs)) ⌝ }
-    ensures { λ _. ⌜ now (p .exit) ≡ table (λ s. sumOf (length (now (v .entry))) (λ j. now (xs .entry) ‼ (s * stride + j) ⊗ now (v .entry) ‼ j)) (length (now (p .entry))) ⌝ }
-{
-    let m = v.len();
-    let mut t = 0usize;
-    while t < p.len() {
-        let start = t * stride;
-        if t + 8 <= p.len() {
-            let end = start + (7 * stride + m);
-            let next = t + 8;
-            eight_dots(&mut p[t..next], &xs[start..end], stride, v);
-            t = next;
-        } else {
-            p[t] = floats::sums::sum_products(xs, start, v, 0, m);
             t = t + 1;
         }
     }

@@ -54,7 +54,7 @@ use Rattle.imhof.proofs.Ending.{small-of-integral, small-of-certain, few-small}
 use Rattle.dwtest.specs.Refusals.{refusal, passes, columnsRefusal, statisticRefusal, rowsRefusal, pivotsRefusal, inverseRefusal, roomRefusal}
 use Rattle.dwtest.specs.Result.{refusedOf, acceptedOf, wantsExact, exactP, noLaw}
 use Rattle.dwtest.specs.Paths.{normalPath, exactPath, byLaw, bySpectrum, direct, together}
-use Rattle.dwtest.specs.Test.{designOf, testOf}
+use Rattle.dwtest.specs.Test.{roomOf, designOf, testOf}
 use Rattle.dwtest.specs.declared.Refusal.{Refusal}
 use Rattle.dwtest.specs.declared.Outcome.{Outcome}
 use Rattle.dwtest.specs.declared.Choice.{Choice}
@@ -138,37 +138,37 @@ module _ (e x : List Float) (k : ℕ) (a : Alternative) (choice : Choice) (matri
         go (Kept s) g NotFinite h = rw h (shown .refused (refusal 13 4) refl)
         go (Kept s) g (Value q) h = rw h (shown .exact s q is-due (rw (is-due, weight-left kept d (Value q) h valued) refl) (stuck-is s g) h)
 
-    decided-shown : P (designOf x n k d a choice matrixRoom partRoom)
+    decided-shown : P (designOf roomOf x n k d a choice matrixRoom partRoom)
     decided-shown =
-        go (pivotsOf x n k) refl (passes (inverseRefusal k inverse)) refl (ltb n 3) refl (wantsExact choice n) refl (passes (roomRefusal n matrixRoom partRoom)) refl
+        go (pivotsOf x n k) refl (passes (inverseRefusal k inverse)) refl (ltb n 3) refl (wantsExact choice n) refl (passes (roomRefusal (roomOf n) matrixRoom partRoom)) refl
       where
         go : (p : Pivots) → pivotsOf x n k ≡ p → (i : Bool) → passes (inverseRefusal k inverse) ≡ i → (f : Bool) → ltb n 3 ≡ f → (w : Bool) → wantsExact choice n ≡ w
-            → (r : Bool) → passes (roomRefusal n matrixRoom partRoom) ≡ r → P (designOf x n k d a choice matrixRoom partRoom)
+            → (r : Bool) → passes (roomRefusal (roomOf n) matrixRoom partRoom) ≡ r → P (designOf roomOf x n k d a choice matrixRoom partRoom)
         go (Fails c) h i g f j w l r m =
-            subst P (sym (pivot-fails x n k d a choice matrixRoom partRoom (Fails c) h refl .0)) (shown .refused (pivotsRefusal (Fails c)) refl)
+            subst P (sym (pivot-fails roomOf x n k d a choice matrixRoom partRoom (Fails c) h refl .0)) (shown .refused (pivotsRefusal (Fails c)) refl)
         go Hold h false g f j w l r m =
-            subst P (sym (inverse-refused x n k d a choice matrixRoom partRoom inverse h refl g .0)) (shown .refused (inverseRefusal k inverse) g)
-        go Hold h true g true j w l r m = subst P (sym (too-few x n k d a choice matrixRoom partRoom inverse h refl g j .0)) (shown .short j)
+            subst P (sym (inverse-refused roomOf x n k d a choice matrixRoom partRoom inverse h refl g .0)) (shown .refused (inverseRefusal k inverse) g)
+        go Hold h true g true j w l r m = subst P (sym (too-few roomOf x n k d a choice matrixRoom partRoom inverse h refl g j .0)) (shown .short j)
         go Hold h true g false j false l r m =
-            subst P (sym (by-normal x n k d a choice matrixRoom partRoom inverse h refl g j l .0)) (normal-shown direct (rw (j, l) (refl, refl, refl)))
+            subst P (sym (by-normal roomOf x n k d a choice matrixRoom partRoom inverse h refl g j l .0)) (normal-shown direct (rw (j, l) (refl, refl, refl)))
         go Hold h true g false j true l false m =
-            subst P (sym (no-room x n k d a choice matrixRoom partRoom inverse h refl g j l m .0)) (shown .refused (roomRefusal n matrixRoom partRoom) m)
+            subst P (sym (no-room roomOf x n k d a choice matrixRoom partRoom inverse h refl g j l m .0)) (shown .refused (roomRefusal (roomOf n) matrixRoom partRoom) m)
         go Hold h true g false j true l true m =
-            subst P (sym (by-exact x n k d a choice matrixRoom partRoom inverse h refl g j l m .0)) (exact-shown (rw (j, l) refl))
+            subst P (sym (by-exact roomOf x n k d a choice matrixRoom partRoom inverse h refl g j l m .0)) (exact-shown (rw (j, l) refl))
 
     -- EVERY OUTCOME
     pub every : P outcome
     every = go (passes (columnsRefusal (columnsOf x n k))) refl (passes (statisticRefusal (durbinWatsonAnswer e))) refl (passes (rowsRefusal n k)) refl
       where
         go : (c : Bool) → passes (columnsRefusal (columnsOf x n k)) ≡ c → (s : Bool) → passes (statisticRefusal (durbinWatsonAnswer e)) ≡ s → (t : Bool) → passes (rowsRefusal n k) ≡ t → P outcome
-        go false c s f t g = subst P (sym (columns-refused e x k a choice matrixRoom partRoom (columnsOf x n k) refl c .0)) (shown .refused (columnsRefusal (columnsOf x n k)) c)
+        go false c s f t g = subst P (sym (columns-refused roomOf e x k a choice matrixRoom partRoom (columnsOf x n k) refl c .0)) (shown .refused (columnsRefusal (columnsOf x n k)) c)
         go true c false f t g =
-            subst P (sym (statistic-refused e x k a choice matrixRoom partRoom (columnsOf x n k) refl c (durbinWatsonAnswer e) refl f .0)) (shown .refused (statisticRefusal (durbinWatsonAnswer e)) f)
+            subst P (sym (statistic-refused roomOf e x k a choice matrixRoom partRoom (columnsOf x n k) refl c (durbinWatsonAnswer e) refl f .0)) (shown .refused (statisticRefusal (durbinWatsonAnswer e)) f)
         go true c true f false g =
-            subst P (sym (rows-refused e x k a choice matrixRoom partRoom (columnsOf x n k) refl c (durbinWatsonAnswer e) refl f g .0)) (shown .refused (rowsRefusal n k) g)
+            subst P (sym (rows-refused roomOf e x k a choice matrixRoom partRoom (columnsOf x n k) refl c (durbinWatsonAnswer e) refl f g .0)) (shown .refused (rowsRefusal n k) g)
         go true c true f true g =
-            subst P (sym (runs-pass e x k a choice matrixRoom partRoom (columnsOf x n k) refl c (durbinWatsonAnswer e) refl f g .0))
-            (subst (λ v. P (designOf x n k v a choice matrixRoom partRoom)) (sym (value-is e x k a choice matrixRoom partRoom f)) decided-shown)
+            subst P (sym (runs-pass roomOf e x k a choice matrixRoom partRoom (columnsOf x n k) refl c (durbinWatsonAnswer e) refl f g .0))
+            (subst (λ v. P (designOf roomOf x n k v a choice matrixRoom partRoom)) (sym (value-is e x k a choice matrixRoom partRoom f)) decided-shown)
 
   -- ---- the statistic
 
@@ -180,13 +180,13 @@ module _ (e x : List Float) (k : ℕ) (a : Alternative) (choice : Choice) (matri
       never h o = true≢false (sym q ∙ ap (λ o. passes (o .refusal)) o ∙ h)
 
       go : (c : Bool) → passes (columnsRefusal (columnsOf x n k)) ≡ c → (s : Statistic) → durbinWatsonAnswer e ≡ s → (n ≤ 256) × (durbinWatsonAnswer e ≡ statistic.Value d)
-      go false c s h = absurd (never c (columns-refused e x k a choice matrixRoom partRoom (columnsOf x n k) refl c .0))
+      go false c s h = absurd (never c (columns-refused roomOf e x k a choice matrixRoom partRoom (columnsOf x n k) refl c .0))
       go true c (statistic.Value v) h = (sized-of x n k c .rows, h ∙ ap statistic.Value (sym (accepted e v h .is)))
-      go true c statistic.Empty h = absurd (never refl (statistic-refused e x k a choice matrixRoom partRoom (columnsOf x n k) refl c statistic.Empty h refl .0))
-      go true c statistic.Single h = absurd (never refl (statistic-refused e x k a choice matrixRoom partRoom (columnsOf x n k) refl c statistic.Single h refl .0))
-      go true c (statistic.NotFinite t) h = absurd (never refl (statistic-refused e x k a choice matrixRoom partRoom (columnsOf x n k) refl c (statistic.NotFinite t) h refl .0))
-      go true c statistic.ZeroSum h = absurd (never refl (statistic-refused e x k a choice matrixRoom partRoom (columnsOf x n k) refl c statistic.ZeroSum h refl .0))
-      go true c statistic.Overflow h = absurd (never refl (statistic-refused e x k a choice matrixRoom partRoom (columnsOf x n k) refl c statistic.Overflow h refl .0))
+      go true c statistic.Empty h = absurd (never refl (statistic-refused roomOf e x k a choice matrixRoom partRoom (columnsOf x n k) refl c statistic.Empty h refl .0))
+      go true c statistic.Single h = absurd (never refl (statistic-refused roomOf e x k a choice matrixRoom partRoom (columnsOf x n k) refl c statistic.Single h refl .0))
+      go true c (statistic.NotFinite t) h = absurd (never refl (statistic-refused roomOf e x k a choice matrixRoom partRoom (columnsOf x n k) refl c (statistic.NotFinite t) h refl .0))
+      go true c statistic.ZeroSum h = absurd (never refl (statistic-refused roomOf e x k a choice matrixRoom partRoom (columnsOf x n k) refl c statistic.ZeroSum h refl .0))
+      go true c statistic.Overflow h = absurd (never refl (statistic-refused roomOf e x k a choice matrixRoom partRoom (columnsOf x n k) refl c statistic.Overflow h refl .0))
 
   -- an accepted call reports Durbin and Watson's d
   pub statistic-is : passes (outcome .refusal) ≡ true → outcome .statistic ≡ durbinWatson e

@@ -3,3 +3,4 @@ pub mod Unit
 pub mod Accepted
 pub mod Worked
 pub mod One
+pub mod Half

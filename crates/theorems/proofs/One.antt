@@ -5,6 +5,7 @@ use mathlib.Core.List.{List, _++_}
 use Prim.Native.Nat.{ℕ, _+_, _*_}
 use lib.ListN.{length, drop}
 use lib.Ieee.{Float}
+use Rattle.floats.specs.Matrix.{whole, halfOf}
 use Rattle.floats.specs.Search.{firstBad}
 use Rattle.floats.specs.declared.search.Found.{Found}
 use Rattle.floats.specs.declared.tally.Tally.{Tally}
@@ -20,7 +21,7 @@ use Rattle.eigen.specs.declared.Spectrum.{Spectrum}
 use Rattle.imhof.specs.Room.{laidOut}
 use Rattle.imhof.specs.Imhof.{imhofOf}
 use Rattle.imhof.specs.declared.Exact.{Exact}
-use Rattle.dwtest.specs.Test.{testOf, touched, clearedOf}
+use Rattle.dwtest.specs.Test.{roomOf, testOf, touched, clearedOf}
 use Rattle.dwtest.specs.declared.Outcome.{Outcome}
 use Rattle.dwtest.specs.declared.Choice.{Choice}
 
@@ -33,7 +34,7 @@ module _ (e x : List Float) (k : ℕ) (a : Alternative) (choice : Choice) (matri
   abbrev pub Promised : Outcome → List Float → List Float → Type 0
   Promised r matrixAfter partsAfter =
       (r ≡ testOf e x k a choice (length matrix) (length parts)) ×
-      (matrixAfter ≡ clearedOf (touched e x k choice (length matrix) (length parts)) (2 * (length e * length e)) matrix) ×
+      (matrixAfter ≡ clearedOf (touched e x k choice (length matrix) (length parts)) (roomOf (length e)) matrix) ×
       (partsAfter ≡ clearedOf (touched e x k choice (length matrix) (length parts)) 8004 parts)
 
   pub one-outcome : (r s : Outcome) (m m' p p' : List Float) → Promised r m p → Promised s m' p' → (r ≡ s) × (m ≡ m') × (p ≡ p')
@@ -53,25 +54,25 @@ module _ (x : List Float) (inverse : Matrix) (n k : ℕ) (run room : List Float)
   Kept r after held =
       (r ≡ spectrumOf x inverse n k) ×
       (after ≡ keptNumbers x inverse n k ++ drop (length (keptNumbers x inverse n k)) run) ×
-      (held ≡ frontOf x inverse n k ++ (residualMaker x inverse n k ++ drop (n * n + n * n) room))
+      (held ≡ frontOf x inverse n k ++ (halfOf n (residualMaker x inverse n k) ++ drop (n * (n + 1)) room))
 
   pub one-spectrum : (r s : Spectrum) (p p' m m' : List Float) → Kept r p m → Kept s p' m' → (r ≡ s) × (p ≡ p') × (m ≡ m')
   one-spectrum r s p p' m m' f g = (both (f .0) (g .0), both (f .1) (g .1), both (f .2) (g .2))
 
   abbrev pub Projected : Found → List Float → Type 0
-  Projected r held = (r ≡ firstBad (mamOf x inverse n k)) × (held ≡ mamOf x inverse n k ++ (residualMaker x inverse n k ++ drop (n * n + n * n) room))
+  Projected r held = (r ≡ firstBad (halfOf n (mamOf x inverse n k))) × (held ≡ halfOf n (mamOf x inverse n k) ++ (halfOf n (residualMaker x inverse n k) ++ drop (n * (n + 1)) room))
 
   pub one-product : (r s : Found) (m m' : List Float) → Projected r m → Projected s m' → (r ≡ s) × (m ≡ m')
   one-product r s m m' f g = (both (f .0) (g .0), both (f .1) (g .1))
 
 -- ---- `tridiagonalize`, `bands` and `ql`
 module _ (n : ℕ) (a : List Float) where
-  pub one-reduction : (m m' : List Float) → m ≡ tridiagonalOf n a → m' ≡ tridiagonalOf n a → m ≡ m'
+  pub one-reduction : (m m' : List Float) → m ≡ halfOf n (tridiagonalOf n (whole n a)) → m' ≡ halfOf n (tridiagonalOf n (whole n a)) → m ≡ m'
   one-reduction m m' = both
 
   module _ (d e : List Float) where
     abbrev pub Banded : List Float → List Float → Type 0
-    Banded d' e' = (d' ≡ diagonalOf n a ++ drop n d) × (e' ≡ couplingsOf n a ++ drop n e)
+    Banded d' e' = (d' ≡ diagonalOf n (whole n a) ++ drop n d) × (e' ≡ couplingsOf n (whole n a) ++ drop n e)
 
     pub one-bands : (p p' q q' : List Float) → Banded p q → Banded p' q' → (p ≡ p') × (q ≡ q')
     one-bands p p' q q' f g = (both (f .0) (g .0), both (f .1) (g .1))

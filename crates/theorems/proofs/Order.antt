@@ -39,7 +39,7 @@ use Rattle.dwtest.specs.Refusals.{passed, refusal, passes, firstOf, columnsRefu
 use Rattle.dwtest.specs.Result.{wantsExact}
 use Rattle.dwtest.specs.Paths.{normalPath, exactPath, byLaw, direct}
 use Rattle.dwtest.proofs.TestLaws.{columns-refused, statistic-refused, rows-refused, runs-pass}
-use Rattle.dwtest.specs.Test.{answerOf, designOf, testOf}
+use Rattle.dwtest.specs.Test.{roomOf, answerOf, designOf, testOf}
 use Rattle.theorems.specs.Document.{Row, row, firstGiven, found, foundAt, empty, broken, lastRows, rows, exactDue, lawDue, Given}
 use Rattle.dwtest.specs.declared.Refusal.{Refusal}
 use Rattle.dwtest.specs.declared.Outcome.{Outcome}
@@ -150,12 +150,12 @@ module _ (e x : List Float) (k : ℕ) (a : Alternative) (choice : Choice) (matri
   table = firstGiven (rows e x k choice matrixRoom partRoom)
 
   -- past refusals 1 to 11 and stage 1 of 13
-  answered : answerOf x n k (durbinWatson e) a choice matrixRoom partRoom .refusal ≡ firstGiven (lastRows e x k choice matrixRoom partRoom)
+  answered : answerOf roomOf x n k (durbinWatson e) a choice matrixRoom partRoom .refusal ≡ firstGiven (lastRows e x k choice matrixRoom partRoom)
   unfolding firstGiven firstOf lawRefused exactRows
-  answered = go (ltb n 3) refl (wantsExact choice n) refl (ltb matrixRoom (2 * (n * n))) refl (ltb partRoom 8004) refl
+  answered = go (ltb n 3) refl (wantsExact choice n) refl (ltb matrixRoom (roomOf n)) refl (ltb partRoom 8004) refl
     where
-      go : (f : Bool) → ltb n 3 ≡ f → (w : Bool) → wantsExact choice n ≡ w → (m : Bool) → ltb matrixRoom (2 * (n * n)) ≡ m → (p : Bool) → ltb partRoom 8004 ≡ p
-          → answerOf x n k (durbinWatson e) a choice matrixRoom partRoom .refusal ≡ firstGiven (lastRows e x k choice matrixRoom partRoom)
+      go : (f : Bool) → ltb n 3 ≡ f → (w : Bool) → wantsExact choice n ≡ w → (m : Bool) → ltb matrixRoom (roomOf n) ≡ m → (p : Bool) → ltb partRoom 8004 ≡ p
+          → answerOf roomOf x n k (durbinWatson e) a choice matrixRoom partRoom .refusal ≡ firstGiven (lastRows e x k choice matrixRoom partRoom)
       go true f w g m h p j = rw (f, few n f) refl
       go false f false g m h p j = rw (f, g) (normal-refused x n k (inverseOf x n k) (durbinWatson e) a direct)
       go false f true g true h p j = rw (f, g, h) refl
@@ -163,14 +163,14 @@ module _ (e x : List Float) (k : ℕ) (a : Alternative) (choice : Choice) (matri
       go false f true g false h false j = rw (f, g, h, j) (exact-refused x n k (inverseOf x n k) (durbinWatson e) a)
 
   -- refusal 11 and stage 1 of 13, then the answer
-  decided : designOf x n k (durbinWatson e) a choice matrixRoom partRoom .refusal ≡
+  decided : designOf roomOf x n k (durbinWatson e) a choice matrixRoom partRoom .refusal ≡
       cond (found (firstWhere k (failsAt x n))) (refusal 11 (foundAt (firstWhere k (failsAt x n))))
       (cond (not (finiteMatrix k (inverseOf x n k))) (refusal 13 1) (firstGiven (lastRows e x k choice matrixRoom partRoom)))
   unfolding designOf firstOf pivotsOf
   decided = go (firstWhere k (failsAt x n)) refl (finiteMatrix k (inverseOf x n k)) refl
     where
       go : (f : Found) → firstWhere k (failsAt x n) ≡ f → (b : Bool) → finiteMatrix k (inverseOf x n k) ≡ b
-          → designOf x n k (durbinWatson e) a choice matrixRoom partRoom .refusal ≡
+          → designOf roomOf x n k (durbinWatson e) a choice matrixRoom partRoom .refusal ≡
           cond (found (firstWhere k (failsAt x n))) (refusal 11 (foundAt (firstWhere k (failsAt x n))))
           (cond (not (finiteMatrix k (inverseOf x n k))) (refusal 13 1) (firstGiven (lastRows e x k choice matrixRoom partRoom)))
       go (At i) f b g = rw f refl
@@ -234,15 +234,15 @@ module _ (e x : List Float) (k : ℕ) (a : Alternative) (choice : Choice) (matri
     where
       go : (c : Bool) → passes (columnsRefusal (columnsOf x n k)) ≡ c → (s : Bool) → passes (statisticRefusal (durbinWatsonAnswer e)) ≡ s → (t : Bool) → leb n k ≡ t → answer ≡ table
       go false c s d t f =
-          ap (λ o. o .refusal) (columns-refused e x k a choice matrixRoom partRoom (columnsOf x n k) refl c .0) ∙ sym (columns-rows _ ∙ rw c refl)
+          ap (λ o. o .refusal) (columns-refused roomOf e x k a choice matrixRoom partRoom (columnsOf x n k) refl c .0) ∙ sym (columns-rows _ ∙ rw c refl)
       go true c false d t f =
-          ap (λ o. o .refusal) (statistic-refused e x k a choice matrixRoom partRoom (columnsOf x n k) refl c (durbinWatsonAnswer e) refl d .0)
+          ap (λ o. o .refusal) (statistic-refused roomOf e x k a choice matrixRoom partRoom (columnsOf x n k) refl c (durbinWatsonAnswer e) refl d .0)
           ∙ sym (columns-rows _ ∙ rw c (residuals-rows _ ∙ rw d refl))
       go true c true d true f =
-          ap (λ o. o .refusal) (rows-refused e x k a choice matrixRoom partRoom (columnsOf x n k) refl c (durbinWatsonAnswer e) refl d (rw f refl) .0)
+          ap (λ o. o .refusal) (rows-refused roomOf e x k a choice matrixRoom partRoom (columnsOf x n k) refl c (durbinWatsonAnswer e) refl d (rw f refl) .0)
           ∙ rw f (sym (columns-rows _ ∙ rw c (residuals-rows _ ∙ rw d refl)))
       go true c true d false f =
-          ap (λ o. o .refusal) (runs-pass e x k a choice matrixRoom partRoom (columnsOf x n k) refl c (durbinWatsonAnswer e) refl d (rw f refl) .0)
+          ap (λ o. o .refusal) (runs-pass roomOf e x k a choice matrixRoom partRoom (columnsOf x n k) refl c (durbinWatsonAnswer e) refl d (rw f refl) .0)
           ∙ rw (value-is d) (decided ∙ sym (columns-rows _ ∙ rw c (residuals-rows _ ∙ rw (d, f) refl)))
 
   -- so a refusal is given exactly when its row holds and none above it does

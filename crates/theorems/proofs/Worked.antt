@@ -19,7 +19,7 @@ use Rattle.design.specs.declared.Alternative.{Alternative}
 use Rattle.design.specs.declared.Alternative.the-variants.{Greater, Less, TwoSided}
 use Rattle.dwtest.specs.Refusals.{firstOf}
 use Rattle.dwtest.specs.Paths.{normalPath}
-use Rattle.dwtest.specs.Test.{designOf, testOf}
+use Rattle.dwtest.specs.Test.{designOf, testWith}
 use Rattle.dwtest.specs.declared.Outcome.{Outcome}
 use Rattle.dwtest.specs.declared.Choice.{Choice}
 use Rattle.dwtest.specs.declared.Choice.the-variants.{Default, Exact, Normal}
@@ -39,7 +39,7 @@ pub worked : map answerTo hand-worked ≡
     ∷ refused 14 0
     ∷ refused 13 1
     ∷ []
-unfolding testOf designOf firstOf normalPath durbinWatsonAnswer firstBad pivotsOf failsAt factorOf leftTo lowerInverse inverseFrom lawFrom matrix row table every turns firstWhere sumOf add sub mul div neg le lt eq isNan sqrtOf ofInt ofBits
+unfolding testWith designOf firstOf normalPath durbinWatsonAnswer firstBad pivotsOf failsAt factorOf leftTo lowerInverse inverseFrom lawFrom matrix row table every turns firstWhere sumOf add sub mul div neg le lt eq isNan sqrtOf ofInt ofBits
 worked = refl
 
 -- each of the fourteen numbers occurs
@@ -61,5 +61,5 @@ pub occurs : map answerTo refusals ≡
     ∷ refused 2 1
     ∷ refused 12 2
     ∷ []
-unfolding testOf designOf firstOf normalPath durbinWatsonAnswer firstBad pivotsOf failsAt factorOf leftTo lowerInverse inverseFrom lawFrom matrix row table every turns firstWhere sumOf add sub mul div neg le lt eq isNan sqrtOf ofInt ofBits
+unfolding testWith designOf firstOf normalPath durbinWatsonAnswer firstBad pivotsOf failsAt factorOf leftTo lowerInverse inverseFrom lawFrom matrix row table every turns firstWhere sumOf add sub mul div neg le lt eq isNan sqrtOf ofInt ofBits
 occurs = refl

@@ -1,7 +1,7 @@
 -- Document 01's table of refusals, row by row in the order tried: when a row is given, and its number and place. A row is asked only where none above it holds.
 -- And when an accepted call is settled (document 02, W-201).
 -- e is the run of n residuals, x the run of k columns; of the rooms only the lengths decide. Definitions only. Assumes nothing.
-use Prim.Native.Nat.{ℕ, _*_}
+use Prim.Native.Nat.{ℕ, _+_, _*_}
 use mathlib.Core.Path.{_≡_}
 use mathlib.Core.Logic.{_⊎_}
 use mathlib.Core.Bool.{Bool, true, false, not, _&&_, _||_, cond}
@@ -112,7 +112,7 @@ module _ (e x : List Float) (k : ℕ) (choice : Choice) (matrixRoom partRoom : �
   -- THE TABLE: what the path decides, and before it what the sheet does
   abbrev pub lastRows : List Row
   lastRows =
-      row (exactDue && ltb matrixRoom (2 * (rowsOf * rowsOf))) 12 1
+      row (exactDue && ltb matrixRoom (rowsOf * (rowsOf + 1))) 12 1
       ∷ row (exactDue && ltb partRoom 8004) 12 2
       ∷ row (exactDue && found (firstBad productOf)) 13 2
       ∷ row (exactDue && found (firstBad (numbersOf rowsOf productOf))) 13 3

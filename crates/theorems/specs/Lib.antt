@@ -1,2 +1,3 @@
 pub mod Document
+pub mod Full
 pub mod Sheets

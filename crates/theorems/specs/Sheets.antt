@@ -24,7 +24,7 @@ pub record Sheet : Type 0 where
 
 -- a sheet with rooms for 256 rows
 abbrev pub sheet : List Float → List Float → ℕ → Alternative → Choice → Sheet
-sheet e x k a c = record { residuals = e; columns = x; count = k; alternative = a; choice = c; matrixRoom = 131072; partRoom = 8004 }
+sheet e x k a c = record { residuals = e; columns = x; count = k; alternative = a; choice = c; matrixRoom = 65792; partRoom = 8004 }
 
 pub record Answer : Type 0 where
   pub number : ℕ
@@ -99,9 +99,9 @@ refusals =
     ∷ sheet (large ∷ large ∷ []) (ones 2) 1 Greater Default
     ∷ sheet (one ∷ minusOne ∷ []) (ones 4) 2 Greater Default
     ∷ sheet (one ∷ minusOne ∷ plusZero ∷ []) (ones 6) 2 Greater Default
-    ∷ record { residuals = one ∷ minusOne ∷ plusZero ∷ []; columns = ones 3; count = 1; alternative = Greater; choice = Exact; matrixRoom = 17; partRoom = 8004 }
+    ∷ record { residuals = one ∷ minusOne ∷ plusZero ∷ []; columns = ones 3; count = 1; alternative = Greater; choice = Exact; matrixRoom = 11; partRoom = 8004 }
     ∷ sheet (one ∷ minusOne ∷ []) (faint ∷ faint ∷ []) 1 Greater Default
     ∷ sheet (plusZero ∷ plusZero ∷ plusZero ∷ plusZero ∷ one ∷ []) vectors 4 Greater Normal
     ∷ sheet (one ∷ minusOne ∷ []) [] 9 Greater Default
-    ∷ record { residuals = one ∷ minusOne ∷ plusZero ∷ []; columns = ones 3; count = 1; alternative = Greater; choice = Exact; matrixRoom = 18; partRoom = 8003 }
+    ∷ record { residuals = one ∷ minusOne ∷ plusZero ∷ []; columns = ones 3; count = 1; alternative = Greater; choice = Exact; matrixRoom = 12; partRoom = 8003 }
     ∷ []

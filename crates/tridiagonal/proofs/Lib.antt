@@ -1,5 +1,4 @@
-mod StairLaws
 pub mod ReflectionLaws
-mod HalfLaws
-mod KeptLaws
+mod ImageLaws
+mod UpdateLaws
 pub mod Examples

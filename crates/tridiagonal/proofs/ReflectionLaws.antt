@@ -1,4 +1,4 @@
--- What half of a reflection and a whole one share: q, from S v; and a reflection keeps a matrix symmetric to the bit, and its length. Assumes nothing.
+-- What is known of a reflection: q, from S v; and a reflection keeps a matrix symmetric to the bit, and its length. Assumes nothing.
 use Prim.Native.Nat.{ℕ, _+_, _*_, _-_, _<_}
 use native.Mathlib.Nat.{zero-add}
 use native.Mathlib.Omega.{arith}
@@ -98,5 +98,8 @@ reflected-long n c a e =
     either true x y p r = p
     either false x y p r = r
 
+pub reflections-long : (n k : ℕ) (a : List Float) → length a ≡ n * n → length (turns k (reflected n) a) ≡ n * n
+reflections-long n k a e = turns-keep (reflected n) (λ b. length b ≡ n * n) k (λ c b l. reflected-long n c b) a e
+
 pub tridiagonal-long : (n : ℕ) (a : List Float) → length a ≡ n * n → length (tridiagonalOf n a) ≡ n * n
-tridiagonal-long n a e = turns-keep (reflected n) (λ b. length b ≡ n * n) (n - 2) (λ c b l. reflected-long n c b) a e
+tridiagonal-long n a e = reflections-long n (n - 2) a e

@@ -1,3 +1,2 @@
 pub mod Reflection
-pub mod Half
 pub mod Bands

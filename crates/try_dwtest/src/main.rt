@@ -3,7 +3,7 @@
 // A call is 7 words of 8 bytes, the least byte first: how many residuals, how many numbers of columns, k, the codes of the alternative and of the choice (the
 // least byte alone is read), how many numbers of the matrix room and of the part room are lent; then the patterns of the residuals
 // and of the columns' numbers. The line: the sheet program's fields, then n and alternative of the answer, the law's mean and variance, and a
-// word for each room: 0 it is as it was in every bit, 1 its first 2n² (8,004) numbers are +0 and the others as they were, 2 anything else.
+// word for each room: 0 it is as it was in every bit, 1 its first n (n + 1) (8,004) numbers are +0 and the others as they were, 2 anything else.
 mod print;
 mod rooms;
 
@@ -52,9 +52,8 @@ fn test(i: usize, head: &[u8; 56], run: &[f64], n: usize, matrix: &mut [f64], pa
         matrix,
         parts,
     );
-    let square = n * n;
     print::print_outcome(i, outcome);
-    print::print_rooms(rooms::held(matrix, 2 * square), rooms::held(parts, 8004));
+    print::print_rooms(rooms::held(matrix, n * (n + 1)), rooms::held(parts, 8004));
 }
 
 // A call of n residuals and m numbers of columns, with room for them; false where the input ends.

@@ -4,7 +4,7 @@ ghost use mathlib.Core.Path.{_≡_};
 ghost use Prim.Native.Nat.{_≤_};
 ghost use lib.ListN.{length};
 
-// Room for 256 rows, and eight numbers more.
+// For 256 rows 2n² numbers, nearly twice what they want, and eight more.
 pub fn matrix_room() -> [f64; 131_080]
     ensures { λ r. ⌜ 131080 ≡ length r ⌝ }
 {

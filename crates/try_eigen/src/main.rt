@@ -28,7 +28,7 @@ fn spectrum_of(
     inverse: [[f64; 8]; 8],
     room: &mut [f64],
 )
-    requires { ⌜ (n ≤ 256) × (k ≤ 8) × (k ≤ n) × (k * n ≡ length (now columns)) × (2 * (n * n) ≤ length (now room)) ⌝ }
+    requires { ⌜ (n ≤ 256) × (k ≤ 8) × (k ≤ n) × (k * n ≡ length (now columns)) × (n * (n + 1) ≤ length (now room)) ⌝ }
 {
     let mut kept = [0.0f64; 256];
     let spectrum = eigen::ma_eigenvalues(columns, n, k, inverse, room, &mut kept);
@@ -41,7 +41,7 @@ fn spectrum_of(
 
 // The spectrum by the inverse of X'X, or the refusal that comes before it.
 fn spectrum_by_columns(i: usize, columns: &[f64], n: usize, k: usize, room: &mut [f64])
-    requires { ⌜ (n ≤ 256) × (k ≤ 8) × (k ≤ n) × (k * n ≡ length (now columns)) × (2 * (n * n) ≤ length (now room)) ⌝ }
+    requires { ⌜ (n ≤ 256) × (k ≤ 8) × (k ≤ n) × (k * n ≡ length (now columns)) × (n * (n + 1) ≤ length (now room)) ⌝ }
 {
     let mut l = [[0.0f64; 8]; 8];
     let pivots = design::factor(columns, n, k, &mut l);
@@ -99,7 +99,7 @@ fn design_of(
     run: &mut [f64],
     room: &mut [f64],
 ) -> bool
-    requires { ⌜ (n ≤ 256) × (k ≤ 8) × (k ≤ n) × (count ≡ k * n) × (count ≤ 2048) × (8 * count + 512 ≤ length (now bytes)) × (count ≤ length (now run)) × (2 * (n * n) ≤ length (now room)) ⌝ }
+    requires { ⌜ (n ≤ 256) × (k ≤ 8) × (k ≤ n) × (count ≡ k * n) × (count ≤ 2048) × (8 * count + 512 ≤ length (now bytes)) × (count ≤ length (now run)) × (n * (n + 1) ≤ length (now room)) ⌝ }
 {
     let size = 8 * count + 512;
     if io::read_full(STDIN_FILENO, &mut bytes[..size]) != size {
@@ -116,7 +116,7 @@ fn design_of(
 
 // A design whose head was read; false where it is larger than any sheet's, has more columns than rows, or the input ends.
 fn one_design(i: usize, head: &[u8; 24], room: &mut [f64]) -> bool
-    requires { ⌜ 131072 ≤ length (now room) ⌝ }
+    requires { ⌜ 65792 ≤ length (now room) ⌝ }
 {
     let n = little_endian(head, 0, 8) as usize;
     let k = little_endian(head, 8, 8) as usize;
@@ -135,7 +135,7 @@ fn one_design(i: usize, head: &[u8; 24], room: &mut [f64]) -> bool
 }
 
 fn designs(room: &mut [f64])
-    requires { ⌜ 131072 ≤ length (now room) ⌝ }
+    requires { ⌜ 65792 ≤ length (now room) ⌝ }
 {
     for i in 0..MOST_DESIGNS {
         let mut head = [0u8; 24];
@@ -150,10 +150,10 @@ fn designs(room: &mut [f64])
 }
 
 // Room for 256 rows.
-fn matrix_room() -> [f64; 131_072]
-    ensures { λ r. ⌜ 131072 ≡ length r ⌝ }
+fn matrix_room() -> [f64; 65_792]
+    ensures { λ r. ⌜ 65792 ≡ length r ⌝ }
 {
-    [0.0; 131_072]
+    [0.0; 65_792]
 }
 
 fn main() {

@@ -109,7 +109,7 @@ fn try_eigenvalues(i: usize, kept: &[f64], count: usize, d: f64) {
 fn try_spectrum(i: usize, columns: &[f64], n: usize, k: usize, inverse: [[f64; 8]; 8], d: f64)
     requires { ⌜ (n ≤ 64) × (k ≤ 8) × (k ≤ n) × (k * n ≡ length (now columns)) ⌝ }
 {
-    let mut room = [0.0f64; 8192];
+    let mut room = [0.0f64; 4160];
     let mut kept = [0.0f64; 256];
     let spectrum = eigen::ma_eigenvalues(columns, n, k, inverse, &mut room, &mut kept);
     if let Spectrum::Kept(s) = spectrum {

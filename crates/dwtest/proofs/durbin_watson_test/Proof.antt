@@ -1,25 +1,14 @@
-use Prim.Native.Nat.{_*_}
 use borrow.Author.Tests.{eq-eqb, ne-eqb}
-use mathlib.Core.Path.{_≡_, refl, sym, ap, _∙_}
-use native.Mathlib.Omega.{arith}
+use mathlib.Core.Path.{sym, ap, _∙_}
 use lib.ListN.{length}
 use Rattle.dwtest.specs.Refusals.{passes, columnsRefusal}
 use Rattle.dwtest.specs.Result.{refusedOf}
+use Rattle.dwtest.specs.Test.{roomOf}
 use Rattle.dwtest.proofs.SheetLaws.{sized-of, more-rows}
 use Rattle.dwtest.proofs.TestLaws.{columns-refused, statistic-refused, rows-refused, runs-pass, untouched}
 use borrow.Author.Needs.{needs}
 use Rattle.dwtest.proofs.durbin_watson_test.Statement.{statement}
 use Rattle.dwtest.proofs.durbin_watson_test.Tie as tie
-use Rattle.dwtest.proofs.durbin_watson_test.Reads as reads
-use Rattle.dwtest.proofs.durbin_watson_test.Lts as lts
-use Rattle.autocorrelation.proofs.durbin_watson.Reads as durbin-watson-reads
-use Rattle.design.proofs.check_columns.Reads as check-columns-reads
-use Rattle.dwtest.proofs.checks.of_columns.Reads as of-columns-reads
-use Rattle.dwtest.proofs.checks.of_rows.Reads as of-rows-reads
-use Rattle.dwtest.proofs.checks.of_statistic.Reads as of-statistic-reads
-use Rattle.dwtest.proofs.checks.statistic.Reads as statistic-reads
-use Rattle.dwtest.proofs.paths.refused.Reads as refused-reads
-use Rattle.dwtest.proofs.test_design.Reads as test-design-reads
 
 check-columns-requires : tie.Need-check-columns-requires
 check-columns-requires c κs = search needs
@@ -35,8 +24,8 @@ returns c =
     let args = c .before .before .before .before .before .before .before .before .before .args in
     let check-columns = c .before .before .before .before .check-columns in
     let of-columns = c .before .before .before .of-columns in
-    let s = columns-refused (args .residuals .now) (args .columns .now) (args .k) (args .alternative) (args .choice) (length (args .matrix .now)) (length (args .parts .now)) _ (sym (check-columns .ensures)) (ap passes (sym (of-columns .ensures)) ∙ ne-eqb _ _ (c .before .if1 .taken)) in
-    (c .refused .ensures ∙ ap refusedOf (of-columns .ensures) ∙ sym (s .0), (untouched _ (2 * ((length (args .residuals .now)) * (length (args .residuals .now)))) (args .matrix .now) (s .1), untouched _ 8004 (args .parts .now) (s .1)))
+    let s = columns-refused roomOf (args .residuals .now) (args .columns .now) (args .k) (args .alternative) (args .choice) (length (args .matrix .now)) (length (args .parts .now)) _ (sym (check-columns .ensures)) (ap passes (sym (of-columns .ensures)) ∙ ne-eqb _ _ (c .before .if1 .taken)) in
+    (c .refused .ensures ∙ ap refusedOf (of-columns .ensures) ∙ sym (s .0), (untouched _ (roomOf (length (args .residuals .now))) (args .matrix .now) (s .1), untouched _ 8004 (args .parts .now) (s .1)))
 
 durbin-watson-requires : tie.Need-durbin-watson-requires
 durbin-watson-requires c κs = search needs
@@ -55,8 +44,8 @@ returns-2 c =
     let if1 = c .before .before .before .before .before .if1 in
     let durbin-watson = c .before .before .before .before .durbin-watson in
     let of-statistic = c .before .before .before .of-statistic in
-    let s = statistic-refused (args .residuals .now) (args .columns .now) (args .k) (args .alternative) (args .choice) (length (args .matrix .now)) (length (args .parts .now)) _ (sym (check-columns .ensures)) (ap passes (sym (of-columns .ensures)) ∙ eq-eqb _ _ (if1 .left)) _ (sym (durbin-watson .ensures)) (ap passes (sym (of-statistic .ensures)) ∙ ne-eqb _ _ (c .before .if2 .taken)) in
-    (c .refused2 .ensures ∙ ap refusedOf (of-statistic .ensures) ∙ sym (s .0), (untouched _ (2 * ((length (args .residuals .now)) * (length (args .residuals .now)))) (args .matrix .now) (s .1), untouched _ 8004 (args .parts .now) (s .1)))
+    let s = statistic-refused roomOf (args .residuals .now) (args .columns .now) (args .k) (args .alternative) (args .choice) (length (args .matrix .now)) (length (args .parts .now)) _ (sym (check-columns .ensures)) (ap passes (sym (of-columns .ensures)) ∙ eq-eqb _ _ (if1 .left)) _ (sym (durbin-watson .ensures)) (ap passes (sym (of-statistic .ensures)) ∙ ne-eqb _ _ (c .before .if2 .taken)) in
+    (c .refused2 .ensures ∙ ap refusedOf (of-statistic .ensures) ∙ sym (s .0), (untouched _ (roomOf (length (args .residuals .now))) (args .matrix .now) (s .1), untouched _ 8004 (args .parts .now) (s .1)))
 
 of-rows-requires : tie.Need-of-rows-requires
 of-rows-requires c κs = search needs
@@ -74,8 +63,8 @@ returns-3 c =
     let of-statistic = c .before .before .before .before .before .before .of-statistic in
     let if2 = c .before .before .before .before .if2 in
     let of-rows = c .before .before .before .of-rows in
-    let s = rows-refused (args .residuals .now) (args .columns .now) (args .k) (args .alternative) (args .choice) (length (args .matrix .now)) (length (args .parts .now)) _ (sym (check-columns .ensures)) (ap passes (sym (of-columns .ensures)) ∙ eq-eqb _ _ (if1 .left)) _ (sym (durbin-watson .ensures)) (ap passes (sym (of-statistic .ensures)) ∙ eq-eqb _ _ (if2 .left)) (ap passes (sym (of-rows .ensures)) ∙ ne-eqb _ _ (c .before .if3 .taken)) in
-    (c .refused3 .ensures ∙ ap refusedOf (of-rows .ensures) ∙ sym (s .0), (untouched _ (2 * ((length (args .residuals .now)) * (length (args .residuals .now)))) (args .matrix .now) (s .1), untouched _ 8004 (args .parts .now) (s .1)))
+    let s = rows-refused roomOf (args .residuals .now) (args .columns .now) (args .k) (args .alternative) (args .choice) (length (args .matrix .now)) (length (args .parts .now)) _ (sym (check-columns .ensures)) (ap passes (sym (of-columns .ensures)) ∙ eq-eqb _ _ (if1 .left)) _ (sym (durbin-watson .ensures)) (ap passes (sym (of-statistic .ensures)) ∙ eq-eqb _ _ (if2 .left)) (ap passes (sym (of-rows .ensures)) ∙ ne-eqb _ _ (c .before .if3 .taken)) in
+    (c .refused3 .ensures ∙ ap refusedOf (of-rows .ensures) ∙ sym (s .0), (untouched _ (roomOf (length (args .residuals .now))) (args .matrix .now) (s .1), untouched _ 8004 (args .parts .now) (s .1)))
 
 statistic-requires : tie.Need-statistic-requires
 statistic-requires c κs = search needs
@@ -109,7 +98,7 @@ returns-4 c =
     let if3 = c .before .before .before .before .before .before .before .before .if3 in
     let statistic = c .before .before .before .before .before .before .before .statistic in
     let test-design = c .before .before .before .before .test-design in
-    let s = runs-pass (args .residuals .now) (args .columns .now) (args .k) (args .alternative) (args .choice) (length (args .matrix .now)) (length (args .parts .now)) _ (sym (check-columns .ensures)) (ap passes (sym (of-columns .ensures)) ∙ eq-eqb _ _ (if1 .left)) _ (sym (durbin-watson .ensures)) (ap passes (sym (of-statistic .ensures)) ∙ eq-eqb _ _ (if2 .left)) (ap passes (sym (of-rows .ensures)) ∙ eq-eqb _ _ (if3 .left)) in
+    let s = runs-pass roomOf (args .residuals .now) (args .columns .now) (args .k) (args .alternative) (args .choice) (length (args .matrix .now)) (length (args .parts .now)) _ (sym (check-columns .ensures)) (ap passes (sym (of-columns .ensures)) ∙ eq-eqb _ _ (if1 .left)) _ (sym (durbin-watson .ensures)) (ap passes (sym (of-statistic .ensures)) ∙ eq-eqb _ _ (if2 .left)) (ap passes (sym (of-rows .ensures)) ∙ eq-eqb _ _ (if3 .left)) in
     (test-design .ensures .0 ∙ rw (statistic .ensures) (sym (s .0)), (test-design .ensures .1 .0 ∙ rw (s .1), test-design .ensures .1 .1 ∙ rw (s .1)))
 
 pub durbin-watson-test-spec : {M : Type 1} → statement M

@@ -1,6 +1,5 @@
-use Prim.Native.Nat.{_*_}
 use borrow.Author.Tests.{lt-ltb, le-ltb, eq-eqb, ne-eqb, not-true, not-false}
-use mathlib.Core.Path.{_≡_, refl, sym, ap, _∙_}
+use mathlib.Core.Path.{sym, ap, _∙_}
 use native.Mathlib.Omega.{arith}
 use lib.ListN.{length}
 use Rattle.design.specs.Factor.{factorOf, rowsMade}
@@ -8,27 +7,12 @@ use Rattle.design.specs.Inverse.{inverseFrom}
 use Rattle.dwtest.specs.Refusals.{passes, pivotsRefusal}
 use Rattle.dwtest.specs.Result.{refusedOf}
 use Rattle.dwtest.proofs.SheetLaws.{pivots-hold, rooms-fit}
-use lib.Dec.{lit<}
-use native.Mathlib.Nat.{lt-of-le-of-lt, mul-le-mul-left}
-use Rattle.dwtest.proofs.RoomLaws.{square-small}
+use Rattle.dwtest.specs.Test.{roomOf}
+use Rattle.dwtest.proofs.RoomLaws.{room-small}
 use Rattle.dwtest.proofs.TestLaws.{pivot-fails, inverse-refused, too-few, by-normal, no-room, by-exact, untouched, wiped}
 use borrow.Author.Needs.{needs}
 use Rattle.dwtest.proofs.test_design.Statement.{statement}
 use Rattle.dwtest.proofs.test_design.Tie as tie
-use Rattle.dwtest.proofs.test_design.Reads as reads
-use Rattle.dwtest.proofs.test_design.Lts as lts
-use Rattle.design.proofs.factor.Reads as factor-reads
-use Rattle.design.proofs.inverse_of_factor.Reads as inverse-of-factor-reads
-use Rattle.dwtest.proofs.checks.of_inverse.Reads as of-inverse-reads
-use Rattle.dwtest.proofs.checks.of_pivots.Reads as of-pivots-reads
-use Rattle.dwtest.proofs.checks.of_rooms.Reads as of-rooms-reads
-use Rattle.dwtest.proofs.clear.Reads as clear-reads
-use Rattle.dwtest.proofs.paths.accepted.Reads as accepted-reads
-use Rattle.dwtest.proofs.paths.exact.Reads as exact-reads
-use Rattle.dwtest.proofs.paths.normal.Reads as normal-reads
-use Rattle.dwtest.proofs.paths.refused.Reads as refused-reads
-use Rattle.dwtest.proofs.paths.wants_exact.Reads as wants-exact-reads
-use Rattle.floats.proofs.tally.Tally.new.Reads as new-reads
 
 factor-requires : tie.Need-factor-requires
 factor-requires c κs = search needs
@@ -45,8 +29,8 @@ returns c =
     let factor = c .before .before .before .before .factor in
     let of-pivots = c .before .before .before .of-pivots in
     let q = ap passes (sym (of-pivots .ensures)) ∙ ne-eqb _ _ (c .before .if1 .taken) in
-    let s = pivot-fails (args .columns .now) (args .n) (args .k) (args .d) (args .alternative) (args .choice) (length (args .matrix .now)) (length (args .parts .now)) _ (sym (factor .ensures .0)) q in
-    (c .refused .ensures ∙ ap refusedOf (of-pivots .ensures) ∙ sym (s .0), (untouched _ (2 * ((args .n) * (args .n))) (args .matrix .now) (s .1), untouched _ 8004 (args .parts .now) (s .1)))
+    let s = pivot-fails roomOf (args .columns .now) (args .n) (args .k) (args .d) (args .alternative) (args .choice) (length (args .matrix .now)) (length (args .parts .now)) _ (sym (factor .ensures .0)) q in
+    (c .refused .ensures ∙ ap refusedOf (of-pivots .ensures) ∙ sym (s .0), (untouched _ (roomOf (args .n)) (args .matrix .now) (s .1), untouched _ 8004 (args .parts .now) (s .1)))
 
 inverse-of-factor-requires : tie.Need-inverse-of-factor-requires
 inverse-of-factor-requires c κs = search needs
@@ -69,8 +53,8 @@ returns-2 c =
     let hold = pivots-hold _ (ap (λ p. passes (pivotsRefusal p)) (sym (factor .ensures .0)) ∙ q) in
     let inv = sym (inverse-of-factor .ensures ∙ ap (λ z. inverseFrom z (args .k)) (factor .ensures .1 ∙ ap (λ p. factorOf (args .columns .now) (args .n) (rowsMade (args .k) p)) hold)) in
     let f = ap passes (sym (of-inverse .ensures)) ∙ ne-eqb _ _ (c .before .if2 .taken) in
-    let s = inverse-refused (args .columns .now) (args .n) (args .k) (args .d) (args .alternative) (args .choice) (length (args .matrix .now)) (length (args .parts .now)) _ hold inv f in
-    (c .refused2 .ensures ∙ ap refusedOf (of-inverse .ensures) ∙ sym (s .0), (untouched _ (2 * ((args .n) * (args .n))) (args .matrix .now) (s .1), untouched _ 8004 (args .parts .now) (s .1)))
+    let s = inverse-refused roomOf (args .columns .now) (args .n) (args .k) (args .d) (args .alternative) (args .choice) (length (args .matrix .now)) (length (args .parts .now)) _ hold inv f in
+    (c .refused2 .ensures ∙ ap refusedOf (of-inverse .ensures) ∙ sym (s .0), (untouched _ (roomOf (args .n)) (args .matrix .now) (s .1), untouched _ 8004 (args .parts .now) (s .1)))
 
 new-requires : tie.Need-new-requires
 new-requires c κs = search needs
@@ -91,8 +75,8 @@ returns-3 c =
     let hold = pivots-hold _ (ap (λ p. passes (pivotsRefusal p)) (sym (factor .ensures .0)) ∙ q) in
     let inv = sym (inverse-of-factor .ensures ∙ ap (λ z. inverseFrom z (args .k)) (factor .ensures .1 ∙ ap (λ p. factorOf (args .columns .now) (args .n) (rowsMade (args .k) p)) hold)) in
     let f = ap passes (sym (of-inverse .ensures)) ∙ eq-eqb _ _ (if2 .left) in
-    let s = too-few (args .columns .now) (args .n) (args .k) (args .d) (args .alternative) (args .choice) (length (args .matrix .now)) (length (args .parts .now)) _ hold inv f (lt-ltb (args .n) 3 (c .before .if3 .taken)) in
-    (c .accepted .ensures ∙ rw (c .before .before .new .ensures) (sym (s .0)), (untouched _ (2 * ((args .n) * (args .n))) (args .matrix .now) (s .1), untouched _ 8004 (args .parts .now) (s .1)))
+    let s = too-few roomOf (args .columns .now) (args .n) (args .k) (args .d) (args .alternative) (args .choice) (length (args .matrix .now)) (length (args .parts .now)) _ hold inv f (lt-ltb (args .n) 3 (c .before .if3 .taken)) in
+    (c .accepted .ensures ∙ rw (c .before .before .new .ensures) (sym (s .0)), (untouched _ (roomOf (args .n)) (args .matrix .now) (s .1), untouched _ 8004 (args .parts .now) (s .1)))
 
 wants-exact-requires : tie.Need-wants-exact-requires
 wants-exact-requires c κs = search needs
@@ -115,8 +99,8 @@ returns-4 c =
     let hold = pivots-hold _ (ap (λ p. passes (pivotsRefusal p)) (sym (factor .ensures .0)) ∙ q) in
     let inv = sym (inverse-of-factor .ensures ∙ ap (λ z. inverseFrom z (args .k)) (factor .ensures .1 ∙ ap (λ p. factorOf (args .columns .now) (args .n) (rowsMade (args .k) p)) hold)) in
     let f = ap passes (sym (of-inverse .ensures)) ∙ eq-eqb _ _ (if2 .left) in
-    let s = by-normal (args .columns .now) (args .n) (args .k) (args .d) (args .alternative) (args .choice) (length (args .matrix .now)) (length (args .parts .now)) _ hold inv f (le-ltb (args .n) 3 (if3 .left)) (sym (c .before .before .wants-exact .ensures) ∙ not-true _ (c .before .if4 .taken)) in
-    (c .normal .ensures ∙ rw (new .ensures) (sym (s .0)), (untouched _ (2 * ((args .n) * (args .n))) (args .matrix .now) (s .1), untouched _ 8004 (args .parts .now) (s .1)))
+    let s = by-normal roomOf (args .columns .now) (args .n) (args .k) (args .d) (args .alternative) (args .choice) (length (args .matrix .now)) (length (args .parts .now)) _ hold inv f (le-ltb (args .n) 3 (if3 .left)) (sym (c .before .before .wants-exact .ensures) ∙ not-true _ (c .before .if4 .taken)) in
+    (c .normal .ensures ∙ rw (new .ensures) (sym (s .0)), (untouched _ (roomOf (args .n)) (args .matrix .now) (s .1), untouched _ 8004 (args .parts .now) (s .1)))
 
 of-rooms-requires : tie.Need-of-rooms-requires
 of-rooms-requires c κs = search needs
@@ -141,42 +125,41 @@ returns-5 c =
     let hold = pivots-hold _ (ap (λ p. passes (pivotsRefusal p)) (sym (factor .ensures .0)) ∙ q) in
     let inv = sym (inverse-of-factor .ensures ∙ ap (λ z. inverseFrom z (args .k)) (factor .ensures .1 ∙ ap (λ p. factorOf (args .columns .now) (args .n) (rowsMade (args .k) p)) hold)) in
     let f = ap passes (sym (of-inverse .ensures)) ∙ eq-eqb _ _ (if2 .left) in
-    let s = no-room (args .columns .now) (args .n) (args .k) (args .d) (args .alternative) (args .choice) (length (args .matrix .now)) (length (args .parts .now)) _ hold inv f (le-ltb (args .n) 3 (if3 .left)) (sym (wants-exact .ensures) ∙ not-false _ (if4 .left)) (ap passes (sym (of-rooms .ensures)) ∙ ne-eqb _ _ (c .before .if5 .taken)) in
-    (c .refused3 .ensures ∙ ap refusedOf (of-rooms .ensures) ∙ sym (s .0), (untouched _ (2 * ((args .n) * (args .n))) (args .matrix .now) (s .1), untouched _ 8004 (args .parts .now) (s .1)))
+    let s = no-room roomOf (args .columns .now) (args .n) (args .k) (args .d) (args .alternative) (args .choice) (length (args .matrix .now)) (length (args .parts .now)) _ hold inv f (le-ltb (args .n) 3 (if3 .left)) (sym (wants-exact .ensures) ∙ not-false _ (if4 .left)) (ap passes (sym (of-rooms .ensures)) ∙ ne-eqb _ _ (c .before .if5 .taken)) in
+    (c .refused3 .ensures ∙ ap refusedOf (of-rooms .ensures) ∙ sym (s .0), (untouched _ (roomOf (args .n)) (args .matrix .now) (s .1), untouched _ 8004 (args .parts .now) (s .1)))
 
 exact-requires : tie.Need-exact-requires
 exact-requires c κs =
     let args = c .before .before .before .before .before .before .before .before .before .before .before .before .before .before .before .before .before .before .before .before .before .args in
     let pre = c .before .before .before .before .before .before .before .before .before .before .before .before .before .before .before .before .before .before .before .before .before .pre in
     let of-rooms = c .before .before .before .before .of-rooms in
-    let r = rooms-fit (args .n) (length (args .matrix .now)) (length (args .parts .now)) (ap passes (sym (of-rooms .ensures)) ∙ eq-eqb _ _ (c .before .before .if5 .left)) in
+    let r = rooms-fit (roomOf (args .n)) (length (args .matrix .now)) (length (args .parts .now)) (ap passes (sym (of-rooms .ensures)) ∙ eq-eqb _ _ (c .before .before .if5 .left)) in
     (omega arith, pre .0, pre .1, pre .2, pre .3, pre .4, r .0, r .1)
 
-mul-square : tie.Need-mul-square
-mul-square c =
-    let args = c .before .before .before .before .before .before .before .before .before .before .before .before .before .before .before .before .before .before .before .before .before .before .before .before .before .before .args in
-    let pre = c .before .before .before .before .before .before .before .before .before .before .before .before .before .before .before .before .before .before .before .before .before .before .before .before .before .before .pre in
-    record { fits = lt-of-le-of-lt (square-small (args .n) (pre .0)) (lit< tt) }
+add-clear : tie.Need-add-clear
+add-clear c =
+    let pre = c .before .before .before .before .before .before .before .before .before .before .before .before .before .before .before .before .before .before .before .before .before .before .before .before .before .before .before .pre in
+    record { fits = omega (arith, pre .0) }
 
 mul-clear : tie.Need-mul-clear
 mul-clear c =
     let args = c .before .before .before .before .before .before .before .before .before .before .before .before .before .before .before .before .before .before .before .before .before .before .before .before .before .before .before .args in
     let pre = c .before .before .before .before .before .before .before .before .before .before .before .before .before .before .before .before .before .before .before .before .before .before .before .before .before .before .before .pre in
-    record { fits = lt-of-le-of-lt (mul-le-mul-left 2 (square-small (args .n) (pre .0))) (lit< tt) }
+    record { fits = omega (arith, room-small (args .n) (pre .0)) }
 
 clear-requires : tie.Need-clear-requires
 clear-requires c κs =
     let args = c .before .before .before .before .before .before .before .before .before .before .before .before .before .before .before .before .before .before .before .before .before .before .before .before .before .before .before .args in
     let of-rooms = c .before .before .before .before .before .before .before .before .before .before .of-rooms in
     let if5 = c .before .before .before .before .before .before .before .before .if5 in
-    let r = rooms-fit (args .n) (length (args .matrix .now)) (length (args .parts .now)) (ap passes (sym (of-rooms .ensures)) ∙ eq-eqb _ _ (if5 .left)) in omega (arith, r .0)
+    let r = rooms-fit (roomOf (args .n)) (length (args .matrix .now)) (length (args .parts .now)) (ap passes (sym (of-rooms .ensures)) ∙ eq-eqb _ _ (if5 .left)) in omega (arith, r .0)
 
 clear-requires-2 : tie.Need-clear-requires-2
 clear-requires-2 c κs =
     let args = c .before .before .before .before .before .before .before .before .before .before .before .before .before .before .before .before .before .before .before .before .before .before .before .before .before .before .before .before .before .before .before .args in
     let of-rooms = c .before .before .before .before .before .before .before .before .before .before .before .before .before .before .of-rooms in
     let if5 = c .before .before .before .before .before .before .before .before .before .before .before .before .if5 in
-    let r = rooms-fit (args .n) (length (args .matrix .now)) (length (args .parts .now)) (ap passes (sym (of-rooms .ensures)) ∙ eq-eqb _ _ (if5 .left)) in omega (arith, r .1)
+    let r = rooms-fit (roomOf (args .n)) (length (args .matrix .now)) (length (args .parts .now)) (ap passes (sym (of-rooms .ensures)) ∙ eq-eqb _ _ (if5 .left)) in omega (arith, r .1)
 
 same-length : tie.Need-same-length
 same-length c = search needs
@@ -204,8 +187,8 @@ returns-6 c =
     let hold = pivots-hold _ (ap (λ p. passes (pivotsRefusal p)) (sym (factor .ensures .0)) ∙ q) in
     let inv = sym (inverse-of-factor .ensures ∙ ap (λ z. inverseFrom z (args .k)) (factor .ensures .1 ∙ ap (λ p. factorOf (args .columns .now) (args .n) (rowsMade (args .k) p)) hold)) in
     let f = ap passes (sym (of-inverse .ensures)) ∙ eq-eqb _ _ (if2 .left) in
-    let s = by-exact (args .columns .now) (args .n) (args .k) (args .d) (args .alternative) (args .choice) (length (args .matrix .now)) (length (args .parts .now)) _ hold inv f (le-ltb (args .n) 3 (if3 .left)) (sym (wants-exact .ensures) ∙ not-false _ (if4 .left)) (ap passes (sym (of-rooms .ensures)) ∙ eq-eqb _ _ (if5 .left)) in
-    (exact .ensures .0 ∙ sym (s .0), (wiped _ (2 * (args .n * args .n)) (args .matrix .now) (exact .last .1 .1 .1 .1 .1 .1 .0) _ (s .1) (clear .ensures) (exact .ensures .1 .0), wiped _ 8004 (args .parts .now) (exact .last .1 .1 .1 .1 .1 .1 .1 .0) _ (s .1) (c .before .before .clear2 .ensures) (exact .ensures .1 .1)))
+    let s = by-exact roomOf (args .columns .now) (args .n) (args .k) (args .d) (args .alternative) (args .choice) (length (args .matrix .now)) (length (args .parts .now)) _ hold inv f (le-ltb (args .n) 3 (if3 .left)) (sym (wants-exact .ensures) ∙ not-false _ (if4 .left)) (ap passes (sym (of-rooms .ensures)) ∙ eq-eqb _ _ (if5 .left)) in
+    (exact .ensures .0 ∙ sym (s .0), (wiped _ (roomOf (args .n)) (args .matrix .now) (exact .last .1 .1 .1 .1 .1 .1 .0) _ (s .1) (clear .ensures) (exact .ensures .1 .0), wiped _ 8004 (args .parts .now) (exact .last .1 .1 .1 .1 .1 .1 .1 .0) _ (s .1) (c .before .before .clear2 .ensures) (exact .ensures .1 .1)))
 
 pub test-design-spec : {M : Type 1} → statement M
 test-design-spec =
@@ -229,7 +212,7 @@ test-design-spec =
     refused-requires-3
     returns-5
     exact-requires
-    mul-square
+    add-clear
     mul-clear
     clear-requires
     clear-requires-2

@@ -1,28 +1,18 @@
 use native.Mathlib.Omega.{arith}
 use mathlib.Core.Path.{_≡_, refl, sym, ap, _∙_}
-use Prim.Native.Nat.{_*_}
-use mathlib.Core.List.{_++_}
 use lib.ListN.{length, length-append, length-drop}
-use lib.Seq.{take-at}
+use Rattle.floats.specs.Tables.{triangle}
+use Rattle.floats.specs.Matrix.{whole}
 use Rattle.floats.specs.Search.{firstBad}
-use Rattle.eigen.specs.Spectrum.{numbersOf, workedOf}
+use Rattle.eigen.specs.Spectrum.{numbersOf}
 use Rattle.eigen.proofs.SpectrumLaws.{worked-is, number-bad, numbers-good}
-use lib.ListN.{length-take, take, drop}
+use lib.ListN.{length-take, take}
 use borrow.Author.Needs.{needs}
 use Rattle.eigen.proofs.delivered.Statement.{statement}
 use Rattle.eigen.proofs.delivered.Tie as tie
-use Rattle.eigen.proofs.delivered.Reads as reads
-use Rattle.eigen.proofs.delivered.Lts as lts
-use Rattle.eigen.proofs.order.keep.Reads as keep-reads
-use Rattle.eigen.proofs.order.order.Reads as order-reads
-use Rattle.floats.proofs.search.first_bad.Reads as first-bad-reads
-use Rattle.floats.proofs.tally.Tally.new.Reads as new-reads
-use Rattle.ql.proofs.ql.Reads as ql-reads
-use Rattle.tridiagonal.proofs.bands.Reads as bands-reads
-use Rattle.tridiagonal.proofs.tridiagonalize.Reads as tridiagonalize-reads
 
-mul-half : tie.Need-mul-half
-mul-half c = search needs
+place-requires : tie.Need-place-requires
+place-requires c κs = search needs
 
 slice-relend-prefix-tridiagonalize : tie.Need-slice-relend-prefix-tridiagonalize
 slice-relend-prefix-tridiagonalize c = search needs
@@ -31,24 +21,28 @@ slice-aggregate-tridiagonalize : tie.Need-slice-aggregate-tridiagonalize
 slice-aggregate-tridiagonalize c = simp length-take (omega arith)
 
 tridiagonalize-requires : tie.Need-tridiagonalize-requires
-tridiagonalize-requires c κs = (simp length-take (omega arith), c .before .before .before .before .before .pre .1, c .before .before .before .before .before .pre .3)
+tridiagonalize-requires c κs = (simp length-take (omega (arith, c .before .place .ensures, c .before .before .before .before .before .before .pre .0)), c .before .before .before .before .before .before .pre .1)
 
 slice-reshare-prefix-bands : tie.Need-slice-reshare-prefix-bands
 slice-reshare-prefix-bands c = search needs
 
 slice-aggregate-bands : tie.Need-slice-aggregate-bands
 slice-aggregate-bands c =
-    let args = c .before .before .before .before .before .before .before .before .before .args in
+    let args = c .before .before .before .before .before .before .before .before .before .before .args in
+    let pre = c .before .before .before .before .before .before .before .before .before .before .pre in
+    let place = c .before .before .before .before .before .place in
     let tridiagonalize = c .before .before .before .tridiagonalize in
-    let l : length (tridiagonalize .last .0) ≡ args .n * args .n = omega (arith, tridiagonalize .kept .0, length-take (args .n * args .n) (args .room .now)) in
+    let l : length (tridiagonalize .last .0) ≡ triangle (args .n) = omega (arith, tridiagonalize .kept .0, length-take (place .result) (args .room .now), place .ensures, pre .0) in
     simp length-take (simp length-append (omega arith))
 
 bands-requires : tie.Need-bands-requires
 bands-requires c κs =
-    let args = c .before .before .before .before .before .before .before .before .before .before .before .args in
+    let args = c .before .before .before .before .before .before .before .before .before .before .before .before .args in
+    let pre = c .before .before .before .before .before .before .before .before .before .before .before .before .pre in
+    let place = c .before .before .before .before .before .before .before .place in
     let tridiagonalize = c .before .before .before .before .before .tridiagonalize in
-    let l : length (tridiagonalize .last .0) ≡ args .n * args .n = omega (arith, tridiagonalize .kept .0, length-take (args .n * args .n) (args .room .now)) in
-    (simp length-take (simp length-append (omega arith)), omega arith, omega arith)
+    let l : length (tridiagonalize .last .0) ≡ triangle (args .n) = omega (arith, tridiagonalize .kept .0, length-take (place .result) (args .room .now), place .ensures, pre .0) in
+    (simp length-take (simp length-append (omega arith)), pre .1, omega arith, omega arith)
 
 new-requires : tie.Need-new-requires
 new-requires c κs = search needs
@@ -66,20 +60,20 @@ enum-told-2 : tie.Need-enum-told-2
 enum-told-2 c = search needs
 
 order-requires : tie.Need-order-requires
-order-requires c κs = omega (arith, c .before .before .before .before .before .before .before .before .before .before .ql .kept .0, c .before .before .before .before .before .before .before .before .before .before .before .before .before .before .before .before .before .before .bands .kept .1 .1 .0, c .before .before .before .before .before .before .before .before .before .before .before .before .before .before .before .before .before .before .before .before .before .before .before .before .before .before .before .before .before .before .pre .4)
+order-requires c κs = omega (arith, c .before .before .before .before .before .before .before .before .before .before .ql .kept .0, c .before .before .before .before .before .before .before .before .before .before .before .before .before .before .before .before .before .before .bands .kept .1 .1 .0, c .before .before .before .before .before .before .before .before .before .before .before .before .before .before .before .before .before .before .before .before .before .before .before .before .before .before .before .before .before .before .before .pre .3)
 
 sub-keep : tie.Need-sub-keep
 sub-keep c =
-    let pre = c .before .before .before .before .before .before .before .before .before .before .before .before .before .before .before .before .before .before .before .before .before .before .before .before .before .before .before .before .before .before .before .before .before .before .pre in
+    let pre = c .before .before .before .before .before .before .before .before .before .before .before .before .before .before .before .before .before .before .before .before .before .before .before .before .before .before .before .before .before .before .before .before .before .before .before .pre in
     omega (arith, pre .2)
 
 keep-requires : tie.Need-keep-requires
 keep-requires c κs =
-    let pre = c .before .before .before .before .before .before .before .before .before .before .before .before .before .before .before .before .before .before .before .before .before .before .before .before .before .before .before .before .before .before .before .before .before .before .before .pre in
+    let pre = c .before .before .before .before .before .before .before .before .before .before .before .before .before .before .before .before .before .before .before .before .before .before .before .before .before .before .before .before .before .before .before .before .before .before .before .before .pre in
     let bands = c .before .before .before .before .before .before .before .before .before .before .before .before .before .before .before .before .before .before .before .before .before .before .before .bands in
     let ql = c .before .before .before .before .before .before .before .before .before .before .before .before .before .before .before .ql in
     let order = c .before .before .before .before .order in
-    (omega (arith, order .kept .0, ql .kept .0, bands .kept .1 .1 .0, pre .4), omega (arith, pre .6))
+    (omega (arith, order .kept .0, ql .kept .0, bands .kept .1 .1 .0, pre .3), omega (arith, pre .5))
 
 same-length : tie.Need-same-length
 same-length c = search needs
@@ -92,25 +86,28 @@ same-length-3 c = search needs
 
 returns : tie.Need-returns
 returns c =
-    let args = c .before .before .before .before .before .before .before .before .before .before .before .before .before .before .before .before .before .before .before .before .before .before .before .before .before .before .before .before .before .args in
-    let pre = c .before .before .before .before .before .before .before .before .before .before .before .before .before .before .before .before .before .before .before .before .before .before .before .before .before .before .before .before .before .pre in
+    let args = c .before .before .before .before .before .before .before .before .before .before .before .before .before .before .before .before .before .before .before .before .before .before .before .before .before .before .before .before .before .before .args in
+    let pre = c .before .before .before .before .before .before .before .before .before .before .before .before .before .before .before .before .before .before .before .before .before .before .before .before .before .before .before .before .before .before .pre in
+    let place = c .before .before .before .before .before .before .before .before .before .before .before .before .before .before .before .before .before .before .before .before .before .before .before .before .before .place in
     let tridiagonalize = c .before .before .before .before .before .before .before .before .before .before .before .before .before .before .before .before .before .before .before .before .before .before .before .tridiagonalize in
     let bands = c .before .before .before .before .before .before .before .before .before .before .before .before .before .before .before .before .before .bands in
     let new = c .before .before .before .before .before .before .before .before .before .before .new in
     let ql = c .before .before .before .before .before .before .before .before .before .ql in
-    let l : length (tridiagonalize .last .0) ≡ args .n * args .n = omega (arith, tridiagonalize .kept .0, length-take (args .n * args .n) (args .room .now)) in
-    let w = worked-is (args .n) (take (args .n * args .n) (args .room .now)) (tridiagonalize .last .0) _ (args .d .now) (args .e .now) (bands .last .1 .1 .0) (bands .last .1 .1 .1 .0) (new .result) l (tridiagonalize .ensures) (pre .4) (pre .5) (bands .ensures .0) (bands .ensures .1) (new .ensures) in
-    let v : ql .last .0 ≡ numbersOf (args .n) (take (args .n * args .n) (args .room .now)) = ql .ensures .1 .0 ∙ ap (λ s. s .diagonal) (w .0) in
+    let l : length (tridiagonalize .last .0) ≡ triangle (args .n) = omega (arith, tridiagonalize .kept .0, length-take (place .result) (args .room .now), place .ensures, pre .0) in
+    let w = worked-is (args .n) (args .room .now) (tridiagonalize .last .0) (args .d .now) (args .e .now) (bands .last .1 .1 .0) (bands .last .1 .1 .1 .0) (new .result) l (pre .3) (pre .4) (new .ensures) (place .result) (place .ensures) (tridiagonalize .ensures) (bands .ensures .0) (bands .ensures .1) in
+    let half : place .result ≡ triangle (args .n) = omega (arith, place .ensures) in
+    let v : ql .last .0 ≡ numbersOf (args .n) (whole (args .n) (take (triangle (args .n)) (args .room .now))) = ql .ensures .1 .0 ∙ ap (λ s. s .diagonal) (w .1) in
     let f = ap firstBad (sym v) ∙ sym (c .before .before .first-bad .ensures) in
-    let z = number-bad (args .n) (args .k) (take (args .n * args .n) (args .room .now)) _ (f ∙ c .enum-told .given .1) in
-    (sym (z .0), (rw (tridiagonalize .ensures) refl, rw (z .1) refl))
+    let z = number-bad (args .n) (args .k) (whole (args .n) (take (triangle (args .n)) (args .room .now))) _ (f ∙ c .enum-told .given .1) in
+    (sym (z .0), (rw (w .0, half) refl, rw (z .1) refl))
 
 same-length-4 : tie.Need-same-length-4
 same-length-4 c =
-    let args = c .before .before .before .before .before .before .before .before .before .before .before .before .before .before .before .before .before .before .before .before .before .before .before .before .before .before .before .before .before .before .before .before .before .before .before .before .before .before .args in
-    let pre = c .before .before .before .before .before .before .before .before .before .before .before .before .before .before .before .before .before .before .before .before .before .before .before .before .before .before .before .before .before .before .before .before .before .before .before .before .before .before .pre in
+    let args = c .before .before .before .before .before .before .before .before .before .before .before .before .before .before .before .before .before .before .before .before .before .before .before .before .before .before .before .before .before .before .before .before .before .before .before .before .before .before .before .args in
+    let pre = c .before .before .before .before .before .before .before .before .before .before .before .before .before .before .before .before .before .before .before .before .before .before .before .before .before .before .before .before .before .before .before .before .before .before .before .before .before .before .before .pre in
+    let place = c .before .before .before .before .before .before .before .before .before .before .before .before .before .before .before .before .before .before .before .before .before .before .before .before .before .before .before .before .before .before .before .before .before .before .place in
     let tridiagonalize = c .before .before .before .before .before .before .before .before .before .before .before .before .before .before .before .before .before .before .before .before .before .before .before .before .before .before .before .before .before .before .before .before .tridiagonalize in
-    simp (length-append, length-drop) (omega (arith, tridiagonalize .kept .0, length-take (args .n * args .n) (args .room .now), pre .0))
+    simp (length-append, length-drop) (omega (arith, tridiagonalize .kept .0, length-take (place .result) (args .room .now), place .ensures, pre .0))
 
 same-length-5 : tie.Need-same-length-5
 same-length-5 c = search needs
@@ -123,8 +120,9 @@ same-length-7 c = search needs
 
 returns-2 : tie.Need-returns-2
 returns-2 c =
-    let args = c .before .before .before .before .before .before .before .before .before .before .before .before .before .before .before .before .before .before .before .before .before .before .before .before .before .before .before .before .before .before .before .before .before .before .before .before .before .before .args in
-    let pre = c .before .before .before .before .before .before .before .before .before .before .before .before .before .before .before .before .before .before .before .before .before .before .before .before .before .before .before .before .before .before .before .before .before .before .before .before .before .before .pre in
+    let args = c .before .before .before .before .before .before .before .before .before .before .before .before .before .before .before .before .before .before .before .before .before .before .before .before .before .before .before .before .before .before .before .before .before .before .before .before .before .before .before .args in
+    let pre = c .before .before .before .before .before .before .before .before .before .before .before .before .before .before .before .before .before .before .before .before .before .before .before .before .before .before .before .before .before .before .before .before .before .before .before .before .before .before .before .pre in
+    let place = c .before .before .before .before .before .before .before .before .before .before .before .before .before .before .before .before .before .before .before .before .before .before .before .before .before .before .before .before .before .before .before .before .before .before .place in
     let tridiagonalize = c .before .before .before .before .before .before .before .before .before .before .before .before .before .before .before .before .before .before .before .before .before .before .before .before .before .before .before .before .before .before .before .before .tridiagonalize in
     let bands = c .before .before .before .before .before .before .before .before .before .before .before .before .before .before .before .before .before .before .before .before .before .before .before .before .before .before .bands in
     let new = c .before .before .before .before .before .before .before .before .before .before .before .before .before .before .before .before .before .before .before .new in
@@ -133,18 +131,19 @@ returns-2 c =
     let enum-told2 = c .before .before .before .before .before .before .before .before .before .enum-told2 in
     let order = c .before .before .before .before .before .before .before .order in
     let keep = c .before .before .keep in
-    let l : length (tridiagonalize .last .0) ≡ args .n * args .n = omega (arith, tridiagonalize .kept .0, length-take (args .n * args .n) (args .room .now), pre .0) in
-    let w = worked-is (args .n) (take (args .n * args .n) (args .room .now)) (tridiagonalize .last .0) _ (args .d .now) (args .e .now) (bands .last .1 .1 .0) (bands .last .1 .1 .1 .0) (new .result) l (tridiagonalize .ensures) (pre .4) (pre .5) (bands .ensures .0) (bands .ensures .1) (new .ensures) in
-    let v : ql .last .0 ≡ numbersOf (args .n) (take (args .n * args .n) (args .room .now)) = ql .ensures .1 .0 ∙ ap (λ s. s .diagonal) (w .0) in
+    let l : length (tridiagonalize .last .0) ≡ triangle (args .n) = omega (arith, tridiagonalize .kept .0, length-take (place .result) (args .room .now), place .ensures, pre .0) in
+    let w = worked-is (args .n) (args .room .now) (tridiagonalize .last .0) (args .d .now) (args .e .now) (bands .last .1 .1 .0) (bands .last .1 .1 .1 .0) (new .result) l (pre .3) (pre .4) (new .ensures) (place .result) (place .ensures) (tridiagonalize .ensures) (bands .ensures .0) (bands .ensures .1) in
+    let half : place .result ≡ triangle (args .n) = omega (arith, place .ensures) in
+    let v : ql .last .0 ≡ numbersOf (args .n) (whole (args .n) (take (triangle (args .n)) (args .room .now))) = ql .ensures .1 .0 ∙ ap (λ s. s .diagonal) (w .1) in
     let f = ap firstBad (sym v) ∙ sym (first-bad .ensures) in
-    let z = numbers-good (args .n) (args .k) (take (args .n * args .n) (args .room .now)) (order .last .0) (f ∙ enum-told2 .given .1) (order .ensures ∙ rw v) in
-    (rw (z .0, keep .ensures .0, ql .ensures .0 .0, ql .ensures .0 .1, w .0, w .1), (rw (tridiagonalize .ensures) refl, rw (z .1) (keep .ensures .1)))
+    let z = numbers-good (args .n) (args .k) (whole (args .n) (take (triangle (args .n)) (args .room .now))) (order .last .0) (f ∙ enum-told2 .given .1) (order .ensures ∙ rw v) in
+    (rw (z .0, keep .ensures .0, ql .ensures .0 .0, ql .ensures .0 .1, w .1, w .2), (rw (w .0, half) refl, rw (z .1) (keep .ensures .1)))
 
 pub delivered-spec : {M : Type 1} → statement M
 delivered-spec =
     tie.close
     (tie.spec
-    mul-half
+    place-requires
     slice-relend-prefix-tridiagonalize
     slice-aggregate-tridiagonalize
     tridiagonalize-requires

@@ -1,22 +1,16 @@
-use mathlib.Core.Path.{_≡_, refl, sym, ap, _∙_, subst}
+use mathlib.Core.Path.{_≡_, refl, sym, ap, _∙_}
 use native.Mathlib.Omega.{arith}
-use Prim.Native.Nat.{_*_}
-use mathlib.Core.List.{List}
 use lib.ListN.{take, drop, length-take, length-replicate}
 use lib.Seq.{take-at, drop-at}
-use lib.Ieee.{Float}
+use Rattle.floats.specs.Tables.{triangle}
+use Rattle.floats.specs.Matrix.{entry, whole, halfOf}
+use Rattle.floats.proofs.MatrixLaws.{length-symmetric, is-symmetric}
+use Rattle.floats.proofs.HalfLaws.{triangle-twice, length-half, whole-half}
 use Rattle.projection.specs.Projection.{product, mamOf}
-use Rattle.floats.proofs.MatrixLaws.{length-symmetric}
-use Rattle.projection.proofs.ProjectionLaws.{mam-symmetric}
-use Rattle.floats.specs.Matrix.{Symmetric}
 use Rattle.eigen.proofs.SpectrumLaws.{matrix-bad, matrix-good}
 use borrow.Author.Needs.{needs}
 use Rattle.eigen.proofs.ma_eigenvalues.Statement.{statement}
 use Rattle.eigen.proofs.ma_eigenvalues.Tie as tie
-use Rattle.eigen.proofs.ma_eigenvalues.Reads as reads
-use Rattle.eigen.proofs.ma_eigenvalues.Lts as lts
-use Rattle.eigen.proofs.delivered.Reads as delivered-reads
-use Rattle.projection.proofs.mam.Reads as mam-reads
 
 mam-requires : tie.Need-mam-requires
 mam-requires c κs = (omega arith, sym (c .before .before .before .before .pre .3), c .before .before .before .before .pre .0, c .before .before .before .before .pre .1)
@@ -41,11 +35,8 @@ slice-aggregate-delivered-2 c = simp (length-take, length-replicate) (omega arit
 
 delivered-requires : tie.Need-delivered-requires
 delivered-requires c κs =
-    let args = c .before .before .before .before .before .before .before .before .before .before .before .before .before .args in
     let pre = c .before .before .before .before .before .before .before .before .before .before .before .before .before .pre in
-    let mam = c .before .before .before .before .before .before .before .before .mam in
-    let f : take (args .n * args .n) (mam .last .0) ≡ mamOf (args .columns .now) (args .inverse) (args .n) (args .k) = ap (take (args .n * args .n)) (mam .ensures .1) ∙ take-at (mamOf (args .columns .now) (args .inverse) (args .n) (args .k)) _ (args .n * args .n) (length-symmetric (args .n) (product (args .columns .now) (args .inverse) (args .n) (args .k))) in
-    (omega (arith, mam .kept .0, pre .4), pre .0, pre .2, subst (λ (z : List Float). Symmetric (args .n) z) (sym f) (mam-symmetric (args .columns .now) (args .inverse) (args .n) (args .k)), simp (length-take, length-replicate) (omega (arith, pre .0)), simp (length-take, length-replicate) (omega (arith, pre .0)), pre .5)
+    (omega (arith, c .before .before .before .before .before .before .before .before .mam .kept .0, triangle-twice (c .before .before .before .before .before .before .before .before .before .before .before .before .before .args .n), pre .4), pre .0, pre .2, simp (length-take, length-replicate) (omega (arith, pre .0)), simp (length-take, length-replicate) (omega (arith, pre .0)), pre .5)
 
 same-length : tie.Need-same-length
 same-length c = search needs
@@ -66,11 +57,13 @@ returns-2 : tie.Need-returns-2
 returns-2 c =
     let args = c .before .before .before .before .before .before .before .before .before .before .before .before .before .before .before .before .before .before .before .before .args in
     let mam = c .before .before .before .before .before .before .before .before .before .before .before .before .before .before .before .mam in
-    let enum-told2 = c .before .before .before .before .before .before .before .before .before .before .before .enum-told2 in
     let delivered = c .before .before .before .before .before .before .delivered in
-    let f : take (args .n * args .n) (mam .last .0) ≡ mamOf (args .columns .now) (args .inverse) (args .n) (args .k) = ap (take (args .n * args .n)) (mam .ensures .1) ∙ take-at (mamOf (args .columns .now) (args .inverse) (args .n) (args .k)) _ (args .n * args .n) (length-symmetric (args .n) (product (args .columns .now) (args .inverse) (args .n) (args .k))) in
-    let g = ap (drop (args .n * args .n)) (mam .ensures .1) ∙ drop-at (mamOf (args .columns .now) (args .inverse) (args .n) (args .k)) _ (args .n * args .n) (length-symmetric (args .n) (product (args .columns .now) (args .inverse) (args .n) (args .k))) in
-    let z = matrix-good (args .columns .now) (args .inverse) (args .n) (args .k) (sym (mam .ensures .0) ∙ enum-told2 .given .1) in
+    let p = product (args .columns .now) (args .inverse) (args .n) (args .k) in
+    let m = mamOf (args .columns .now) (args .inverse) (args .n) (args .k) in
+    let o = length-half (entry (args .n) m) (args .n) in
+    let f : whole (args .n) (take (triangle (args .n)) (mam .last .0)) ≡ m = ap (λ l. whole (args .n) (take (triangle (args .n)) l)) (mam .ensures .1) ∙ ap (whole (args .n)) (take-at (halfOf (args .n) m) _ (triangle (args .n)) o) ∙ whole-half (args .n) m (length-symmetric (args .n) p) (is-symmetric (args .n) p) in
+    let g = ap (drop (triangle (args .n))) (mam .ensures .1) ∙ drop-at (halfOf (args .n) m) _ (triangle (args .n)) o in
+    let z = matrix-good (args .columns .now) (args .inverse) (args .n) (args .k) (sym (mam .ensures .0) ∙ c .before .before .before .before .before .before .before .before .before .before .before .enum-told2 .given .1) in
     (delivered .ensures .0 ∙ rw f (sym (z .0)), (rw (z .1) (rw f at (delivered .ensures .1 .1)), rw (z .2) (rw (f, g) at (delivered .ensures .1 .0))))
 
 pub ma-eigenvalues-spec : {M : Type 1} → statement M

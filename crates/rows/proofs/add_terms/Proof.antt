@@ -1,4 +1,4 @@
-use Prim.Native.Nat.{_≤_, _-_, _+_}
+use Prim.Native.Nat.{_≤_, _-_, _+_, _*_}
 use native.Mathlib.Omega.{arith}
 use native.Mathlib.Numerals.{add-one}
 use native.Mathlib.Nat.{le-antisymm}
@@ -11,7 +11,7 @@ use Rattle.rows.proofs.add_terms.Statement.{statement}
 use Rattle.rows.proofs.add_terms.Tie as tie
 
 abbrev Inv-loop : tie.InvT-loop
-Inv-loop row₀ xs stride w k t₀ row t = (t ≤ length w) × (k ≡ length w) × (length row ≡ length row₀) × (row ≡ termsTo row₀ xs stride w t)
+Inv-loop row₀ xs stride w k t₀ row t = (t ≤ length w) × (k ≡ length w) × (length row ≡ length row₀) × (row ≡ termsTo row₀ xs (λ s. s * stride) w t)
 
 abbrev μ-loop : tie.MeasureT-loop
 μ-loop row₀ xs stride w k t₀ row t = length w - t

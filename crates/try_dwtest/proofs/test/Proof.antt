@@ -1,21 +1,17 @@
--- The rooms keep their lengths, and 2n² stays below 2^64. Assumes nothing.
+-- The rooms keep their lengths, and n (n + 1) stays below 2^64. Assumes nothing.
 use mathlib.Core.Path.{sym, _∙_}
 use lib.Seq.{length-take-le}
-use lib.Dec.{lit<}
-use native.Mathlib.Nat.{lt-of-le-of-lt, mul-le-mul, mul-le-mul-left}
+use native.Mathlib.Nat.{mul-le-mul}
+use native.Mathlib.Omega.{arith}
 use borrow.Author.Needs.{needs}
 use Rattle.try_dwtest.proofs.test.Statement.{statement}
 use Rattle.try_dwtest.proofs.test.Tie as tie
 
-mul-square : tie.Need-mul-square
-mul-square c =
-    let pre = c .before .before .before .before .before .before .before .before .before .before .before .before .before .before .before .before .before .before .before .before .before .before .before .before .before .before .before .before .pre in
-    record { fits = lt-of-le-of-lt (mul-le-mul (pre .1) (pre .1)) (lit< tt) }
+add-held : tie.Need-add-held
+add-held c = omega (arith, c .before .before .before .before .before .before .before .before .before .before .before .before .before .before .before .before .before .before .before .before .before .before .before .before .before .before .before .before .before .before .pre .1)
 
 mul-held : tie.Need-mul-held
-mul-held c =
-    let pre = c .before .before .before .before .before .before .before .before .before .before .before .before .before .before .before .before .before .before .before .before .before .before .before .before .before .before .before .before .before .before .pre in
-    record { fits = lt-of-le-of-lt (mul-le-mul-left 2 (mul-le-mul (pre .1) (pre .1))) (lit< tt) }
+mul-held c = let h = mul-le-mul (c .before .before .before .before .before .before .before .before .before .before .before .before .before .before .before .before .before .before .before .before .before .before .before .before .before .before .before .before .before .before .pre .1) (c .before .before .before .before .before .before .before .before .before .before .before .before .before .before .before .before .before .before .before .before .before .before .before .before .before .before .before .before .before .before .pre .1) in omega (arith, h, c .before .before .before .before .before .before .before .before .before .before .before .before .before .before .before .before .before .before .before .before .before .before .before .before .before .before .before .before .before .before .pre .1)
 
 same-length : tie.Need-same-length
 same-length c =
@@ -35,5 +31,5 @@ test-spec =
     (tie.spec (λ c κs. search needs) (λ c κs. search needs) (λ c. sym (length-take-le _ _ (search needs)))
     (λ c. search needs) (λ c. search needs) (λ c. search needs) (λ c. search needs) (λ c κs. search needs)
     (λ c κs. search needs) (λ c κs. search needs) (λ c κs. search needs) (λ c κs. search needs)
-    (λ c κs. search needs) mul-square (λ c κs. search needs) mul-held (λ c κs. search needs)
+    (λ c κs. search needs) (λ c κs. search needs) add-held mul-held (λ c κs. search needs)
     (λ c κs. search needs) (λ c κs. search needs) same-length same-length-2 (λ c. search needs))

@@ -17,7 +17,7 @@ design-of-requires c κs =
     let if3 = c .before .before .before .if3 in
     let h = mul-le-mul (if2 .left) (if1 .left) in
     let s = mul-le-mul (if1 .left) (if1 .left) in
-    (if1 .left, if2 .left, if3 .left, refl, omega (arith, h), omega (arith, h), omega (arith, h), omega (arith, s))
+    (if1 .left, if2 .left, if3 .left, refl, omega (arith, h), omega (arith, h), omega (arith, h), omega (arith, s, if1 .left))
 
 pub one-design-spec : {M : Type 1} → statement M
 one-design-spec =

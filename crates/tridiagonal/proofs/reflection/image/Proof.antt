@@ -1,8 +1,7 @@
--- Before each turn r is a group's start, and the first r numbers have their first r terms. A group brings the numbers before it their next terms, and its own numbers all theirs so far. Assumes nothing.
+-- Before each turn the first r numbers have their first r terms. A group brings the numbers before it their next terms, and its own numbers all theirs so far. Assumes nothing.
 use Rattle.floats.proofs.RowLaws.{filled, filled-none, filled-all}
 use Rattle.tridiagonal.specs.Reflection.{below}
-use Rattle.tridiagonal.proofs.StairLaws.{Whole, whole-none, whole-more}
-use Rattle.tridiagonal.proofs.HalfLaws.{imageTo, image-more, image-all}
+use Rattle.tridiagonal.proofs.ImageLaws.{imageTo, image-more, image-all}
 use Prim.Native.Nat.{_≤_, _-_}
 use native.Mathlib.Omega.{arith}
 use native.Mathlib.Nat.{le-antisymm}
@@ -13,26 +12,22 @@ use Rattle.tridiagonal.proofs.reflection.image.Statement.{statement}
 use Rattle.tridiagonal.proofs.reflection.image.Tie as tie
 
 abbrev Inv-loop : tie.InvT-loop
-Inv-loop p₀ a n c v m r₀ p r = (r ≤ below n c) × (m ≡ below n c) × (length p ≡ below n c) × (Whole n c r) × (p ≡ filled (imageTo n c a v r) r p₀)
+Inv-loop p₀ a n c v m r₀ p r = (r ≤ below n c) × (m ≡ below n c) × (length p ≡ below n c) × (p ≡ filled (imageTo n c a v r) r p₀)
 
 abbrev μ-loop : tie.MeasureT-loop
 μ-loop p₀ a n c v m r₀ p r = below n c - r
 
-loop-holds : tie.Need-loop-holds Inv-loop μ-loop
-loop-holds c = (omega arith, search needs, search needs, whole-none _ _, filled-none _ _)
-
 loop-again : tie.Need-loop-again Inv-loop μ-loop
 loop-again c =
     let loop = c .before .before .before .before .before .before .before .before .before .before .loop in
-    let next = c .before .before .before .before .before .before .before .before .group-end .ensures .0 in
-    (search needs, search needs, search needs, whole-more _ _ _ (loop .inv .3) _ (rw next) (search needs), rw (c .before .before .sum-group .ensures) (image-more _ _ _ _ _ _ (loop .inv .3) (rw next) (search needs) _ _ _ (loop .inv .4) (c .before .before .before .before .before .before .add-group .ensures)))
+    (search needs, search needs, search needs, rw (c .before .before .sum-group .ensures) (image-more _ _ _ _ _ _ (search needs) _ _ _ (loop .inv .3) (c .before .before .before .before .before .before .add-group .ensures)))
 
 returns : tie.Need-returns Inv-loop μ-loop
-returns c = c .before .loop .inv .4 ∙ filled-all _ _ _ (search needs) (search needs) ∙ image-all _ _ _ _ (c .before .before .before .before .before .args .p .now) _ (le-antisymm (c .before .loop .inv .0) (search needs)) (c .before .before .before .before .before .pre .0)
+returns c = c .before .loop .inv .3 ∙ filled-all _ _ _ (search needs) (search needs) ∙ image-all _ _ _ _ (c .before .before .before .before .before .args .p .now) _ (le-antisymm (c .before .loop .inv .0) (search needs)) (c .before .before .before .before .before .pre .0)
 
 pub image-spec : {M : Type 1} → statement M
 image-spec =
     tie.close
-    (tie.spec Inv-loop μ-loop loop-holds (λ c. search needs) (λ c. search needs) (λ c κs. search needs)
-    (λ c. search needs) (λ c. search needs) (λ c κs. search needs) (λ c κs. search needs) (λ c. search needs)
-    loop-again (λ c. search needs) returns)
+    (tie.spec Inv-loop μ-loop (λ c. (omega arith, search needs, search needs, filled-none _ _)) (λ c. search needs)
+    (λ c. search needs) (λ c κs. search needs) (λ c. search needs) (λ c. search needs) (λ c κs. search needs)
+    (λ c κs. search needs) (λ c. search needs) loop-again (λ c. search needs) returns)

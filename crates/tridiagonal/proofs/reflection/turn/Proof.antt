@@ -1,5 +1,5 @@
 -- Block and column are stored one after the other. Assumes nothing.
-use Rattle.tridiagonal.proofs.HalfLaws.{turn-of}
+use Rattle.tridiagonal.proofs.UpdateLaws.{turn-of}
 use borrow.Author.Needs.{needs}
 use Rattle.tridiagonal.proofs.reflection.turn.Statement.{statement}
 use Rattle.tridiagonal.proofs.reflection.turn.Tie as tie

@@ -1,0 +1,30 @@
+-- After j turns the first j numbers are new. Assumes nothing.
+use lib.Ieee.{nan}
+use Rattle.floats.specs.Words.{_⊕_, _⊖_, _‼_, plusZero}
+use Rattle.floats.proofs.RowLaws.{filled, filled-none, filled-more, filled-all}
+use Prim.Native.Nat.{_≤_, _<_, _-_}
+use native.Mathlib.Omega.{arith}
+use mathlib.Core.Path.{_≡_, refl, _∙_}
+use lib.ListN.{length, length-set}
+use borrow.Author.Needs.{needs}
+use Rattle.projection.proofs.matrix.set_difference.Statement.{statement}
+use Rattle.projection.proofs.matrix.set_difference.Tie as tie
+
+abbrev Inv-loop : tie.InvT-loop
+Inv-loop row₀ xs ys j₀ j-end row j = (j ≤ length row₀) × (length row ≡ length row₀) × (j-end ≡ length row₀) × (row ≡ filled (λ j. plusZero ⊕ (xs ‼ j ⊖ ys ‼ j)) j row₀)
+
+abbrev μ-loop : tie.MeasureT-loop
+μ-loop row₀ xs ys j₀ j-end row j = length row₀ - j
+
+loop-again : tie.Need-loop-again Inv-loop μ-loop
+loop-again c = let h : c .before .before .before .loop .j < length (c .before .before .before .before .args .row .now) = search needs in (omega arith, simp length-set (omega arith), search needs, rw (c .before .before .before .loop .inv .3) (filled-more _ _ _ nan h))
+
+returns : tie.Need-returns Inv-loop μ-loop
+returns c = c .before .loop .inv .3 ∙ filled-all _ _ _ (search needs) (search needs)
+
+pub set-difference-spec : {M : Type 1} → statement M
+set-difference-spec =
+    tie.close
+    (tie.spec Inv-loop μ-loop (λ c. (omega arith, refl, refl, filled-none _ _)) (λ c. search needs)
+    (λ c. search needs) (λ c. search needs) (λ c. search needs) (λ c. search needs) (λ c. search needs)
+    (λ c. search needs) (λ c. search needs) loop-again (λ c. search needs) returns)
