@@ -63,14 +63,18 @@ module _ (x : List Float) (inv : List (List Float)) (n k : ℕ) where
 
 -- ---- A M: row t is made of rows t - 1, t and t + 1 of M
 
--- row s of the whole of M, and as it is copied from the half
+-- row s of the whole of M, as it is copied from the half
 abbrev pub rowAt : List Float → ℕ → ℕ → List Float
 rowAt m n s = table (λ j. halfEntry m s j) n
 
 pub row-copied : (m : List Float) (n s k : ℕ) → k ≡ n → table (λ j. halfEntry m s (0 + j)) k ≡ rowAt m n s
 row-copied m n s k e = rw e (table-same _ _ n (λ j l. rw zero-add))
 
--- what that copy asks
+-- and as it is moved on
+pub row-moved : (m here : List Float) (n s k : ℕ) → k ≡ n → here ≡ rowAt m n s → table (λ j. here ‼ j) k ≡ rowAt m n s
+row-moved m here n s k e q = rw e (table-same _ _ n (λ j l. rw q (getD-table (halfEntry m s) n j nan l)))
+
+-- what the copy asks
 pub row-fits : (m row : List Float) (n s : ℕ) → length m ≡ triangle n → n ≤ 256 → s < n → length row ≡ n
     → (s < 256) × (0 + length row ≤ 256) × (triangle (s + 1) ≤ length m) × (triangle (0 + length row) ≤ length m)
 row-fits m row n s e b h l =

@@ -65,17 +65,9 @@ fn residual_maker(m: &mut [f64], u: &mut [f64], x: &[f64], inv: &[[f64; 8]; 8], 
     matrix::add_identity(m, n);
 }
 
-// Row t of A M: three rows of M make it. `before` and `here` hold rows t - 1 and t of M, and are then a row on, as far as there is one; `next` is room for a row.
-fn differences(
-    w: &mut [f64],
-    m: &[f64],
-    n: usize,
-    t: usize,
-    before: &mut [f64],
-    here: &mut [f64],
-    next: &mut [f64],
-)
-    requires { ⌜ (length (now w) ≡ n) × (length (now m) ≡ triangle n) × (n ≤ 256) × (t < n) × (length (now next) ≡ n) × (now before ≡ table (λ j. halfEntry (now m) (t - 1) j) n) × (now here ≡ table (λ j. halfEntry (now m) t j) n) ⌝ }
+// Row t of A M: three rows of M make it. `before` and `here` hold rows t - 1 and t of M, and are then a row on, as far as there is one.
+fn differences(w: &mut [f64], m: &[f64], n: usize, t: usize, before: &mut [f64], here: &mut [f64])
+    requires { ⌜ (length (now w) ≡ n) × (length (now m) ≡ triangle n) × (n ≤ 256) × (t < n) × (now before ≡ table (λ j. halfEntry (now m) (t - 1) j) n) × (now here ≡ table (λ j. halfEntry (now m) t j) n) ⌝ }
     ensures { λ _. ⌜ now (w .exit) ≡ table (λ j. differenceAt (λ s. halfEntry (now (m .entry)) s j) n t) n ⌝ }
     ensures { λ _. ⌜ (t + 1 < n → (now (before .exit) ≡ table (λ j. halfEntry (now (m .entry)) t j) n) × (now (here .exit) ≡ table (λ j. halfEntry (now (m .entry)) (t + 1) j) n)) ⌝ }
 {
@@ -85,24 +77,24 @@ fn differences(
         rows::fill(w, 0.0);
     }
     if t + 1 < n {
-        rows::half::copy_row(next, m, t + 1, 0);
-        matrix::step_on(w, before, here, next);
+        rows::copy(before, here);
+        rows::half::copy_row(here, m, t + 1, 0);
+        matrix::add_difference(w, before, here);
     }
 }
 
-// Rows t to t + k - 1 of A M, each `stride` on from the one before in `w`; `before`, `here` and `next` are room for three rows of M.
+// Rows t to t + k - 1 of A M, each `stride` on from the one before in `w`; `before` and `here` are room for two rows of M.
 fn load_rows(
     w: &mut [f64],
     stride: usize,
     m: &[f64],
     n: usize,
-    t: usize,
-    k: usize,
     before: &mut [f64],
     here: &mut [f64],
-    next: &mut [f64],
+    t: usize,
+    k: usize,
 )
-    requires { ⌜ (n ≤ stride) × (k * stride ≤ length (now w)) × (length (now m) ≡ triangle n) × (n ≤ 256) × (t < n) × (t + k ≤ n) × (length (now before) ≡ n) × (length (now here) ≡ n) × (length (now next) ≡ n) ⌝ }
+    requires { ⌜ (n ≤ stride) × (k * stride ≤ length (now w)) × (length (now m) ≡ triangle n) × (n ≤ 256) × (t < n) × (t + k ≤ n) × (length (now before) ≡ n) × (length (now here) ≡ n) ⌝ }
     ensures { λ _. ⌜ ((s j : ℕ) → s < k → j < n → now (w .exit) ‼ (s * stride + j) ≡ differenceAt (λ r. halfEntry (now (m .entry)) r j) n (t + s)) ⌝ }
 {
     if t > 0 {
@@ -114,7 +106,7 @@ fn load_rows(
     for s in 0..k {
         let start = s * stride;
         let end = start + n;
-        differences(&mut w[start..end], m, n, t + s, before, here, next);
+        differences(&mut w[start..end], m, n, t + s, before, here);
     }
 }
 
@@ -140,7 +132,7 @@ fn add_block_to_row(
 }
 
 // Adds terms t to t + k - 1 of every entry of M A M to the first half of the room, M being in the second; `w` is
-// room for k rows of A M, `stride` apart, and `before`, `here` and `next` for three rows of M.
+// room for k rows of A M, `stride` apart, and `before` and `here` for two rows of M.
 fn add_block(
     room: &mut [f64],
     w: &mut [f64],
@@ -150,14 +142,13 @@ fn add_block(
     k: usize,
     before: &mut [f64],
     here: &mut [f64],
-    next: &mut [f64],
 )
-    requires { ⌜ (triangle n + triangle n ≤ length (now room)) × (n ≤ 256) × (n ≤ stride) × (k * stride ≤ length (now w)) × (t < n) × (t + k ≤ n) × (k ≤ 16) × (length (now before) ≡ n) × (length (now here) ≡ n) × (length (now next) ≡ n) ⌝ }
+    requires { ⌜ (triangle n + triangle n ≤ length (now room)) × (n ≤ 256) × (n ≤ stride) × (k * stride ≤ length (now w)) × (t < n) × (t + k ≤ n) × (k ≤ 16) × (length (now before) ≡ n) × (length (now here) ≡ n) ⌝ }
     ensures { λ _. ⌜ now (room .exit) ≡ half (λ i j. sumFrom (halfEntry (take (triangle n) (now (room .entry))) i j) k (λ s. halfEntry (part (triangle n) (triangle n + triangle n) (now (room .entry))) i (t + s) ⊗ differenceAt (λ r. halfEntry (part (triangle n) (triangle n + triangle n) (now (room .entry))) r j) n (t + s))) n ++ drop (triangle n) (now (room .entry)) ⌝ }
 {
     let half = rows::half::place(n, 0);
     let full = half + half;
-    load_rows(w, stride, &room[half..full], n, t, k, before, here, next);
+    load_rows(w, stride, &room[half..full], n, before, here, t, k);
     for i in 0..n {
         add_block_to_row(room, w, stride, n, t, k, i);
     }
@@ -171,7 +162,7 @@ fn next_block(left: usize) -> usize
     if left < 16 { left } else { 16 }
 }
 
-// M A M into the first half of the room, from M in the second; `w` is room for sixteen rows, `stride` apart, and `before`, `here` and `next` for three rows of M.
+// M A M into the first half of the room, from M in the second; `w` is room for sixteen rows, `stride` apart, and `before` and `here` for two rows of M.
 fn products(
     room: &mut [f64],
     w: &mut [f64],
@@ -179,9 +170,8 @@ fn products(
     n: usize,
     before: &mut [f64],
     here: &mut [f64],
-    next: &mut [f64],
 )
-    requires { ⌜ (triangle n + triangle n ≤ length (now room)) × (n ≤ 256) × (n ≤ stride) × (16 * stride ≤ length (now w)) × (length (now before) ≡ n) × (length (now here) ≡ n) × (length (now next) ≡ n) ⌝ }
+    requires { ⌜ (triangle n + triangle n ≤ length (now room)) × (n ≤ 256) × (n ≤ stride) × (16 * stride ≤ length (now w)) × (n ≤ length (now before)) × (n ≤ length (now here)) ⌝ }
     ensures { λ _. ⌜ now (room .exit) ≡ half (λ i j. sumOf n (λ t. halfEntry (part (triangle n) (triangle n + triangle n) (now (room .entry))) i t ⊗ differenceAt (λ s. halfEntry (part (triangle n) (triangle n + triangle n) (now (room .entry))) s j) n t)) n ++ drop (triangle n) (now (room .entry)) ⌝ }
 {
     let half = rows::half::place(n, 0);
@@ -189,13 +179,13 @@ fn products(
     let mut t = 0usize;
     while t < n {
         let k = next_block(n - t);
-        add_block(room, w, stride, n, t, k, before, here, next);
+        add_block(room, w, stride, n, t, k, &mut before[..n], &mut here[..n]);
         t = t + k;
     }
 }
 
-// The same, with room of its own for the sixteen rows and the three: to clear much of it costs a small matrix more
-// than the products do.
+// The same, with room of its own for the sixteen rows and the two: to clear much of it costs a small matrix more than
+// the products do.
 fn products_of_few(room: &mut [f64], n: usize)
     requires { ⌜ (triangle n + triangle n ≤ length (now room)) × (n ≤ 16) ⌝ }
     ensures { λ _. ⌜ now (room .exit) ≡ half (λ i j. sumOf n (λ t. halfEntry (part (triangle n) (triangle n + triangle n) (now (room .entry))) i t ⊗ differenceAt (λ s. halfEntry (part (triangle n) (triangle n + triangle n) (now (room .entry))) s j) n t)) n ++ drop (triangle n) (now (room .entry)) ⌝ }
@@ -203,16 +193,7 @@ fn products_of_few(room: &mut [f64], n: usize)
     let mut w = [0.0f64; 256];
     let mut before = [0.0f64; 16];
     let mut here = [0.0f64; 16];
-    let mut next = [0.0f64; 16];
-    products(
-        room,
-        &mut w,
-        16,
-        n,
-        &mut before[..n],
-        &mut here[..n],
-        &mut next[..n],
-    );
+    products(room, &mut w, 16, n, &mut before, &mut here);
 }
 
 // And with room for any matrix: the rows stand 256 apart, where `rows::add_terms` takes sixteen terms a pass.
@@ -223,16 +204,7 @@ fn products_of_many(room: &mut [f64], n: usize)
     let mut w = [0.0f64; 4096];
     let mut before = [0.0f64; 256];
     let mut here = [0.0f64; 256];
-    let mut next = [0.0f64; 256];
-    products(
-        room,
-        &mut w,
-        256,
-        n,
-        &mut before[..n],
-        &mut here[..n],
-        &mut next[..n],
-    );
+    products(room, &mut w, 256, n, &mut before, &mut here);
 }
 
 // M into the second half of the room, then M A M into the first.

@@ -51,17 +51,12 @@ pub fn set_difference(row: &mut [f64], xs: &[f64], ys: &[f64])
     }
 }
 
-// Adds the differences of `here` and `next` to the numbers of `row`; then `before` is `here`, and `here` is `next`.
-pub fn step_on(row: &mut [f64], before: &mut [f64], here: &mut [f64], next: &[f64])
-    requires { ⌜ (length (now before) ≡ length (now row)) × (length (now here) ≡ length (now row)) × (length (now next) ≡ length (now row)) ⌝ }
-    ensures { λ _. ⌜ now (row .exit) ≡ table (λ j. now (row .entry) ‼ j ⊕ (now (here .entry) ‼ j ⊖ now (next .entry) ‼ j)) (length (now (row .entry))) ⌝ }
-    ensures { λ _. ⌜ (now (before .exit) ≡ now (here .entry)) × (now (here .exit) ≡ now (next .entry)) ⌝ }
+// Adds the differences of `xs` and `ys` to the numbers of `row`.
+pub fn add_difference(row: &mut [f64], xs: &[f64], ys: &[f64])
+    requires { ⌜ (length (now row) ≤ length (now xs)) × (length (now row) ≤ length (now ys)) ⌝ }
+    ensures { λ _. ⌜ now (row .exit) ≡ table (λ j. now (row .entry) ‼ j ⊕ (now (xs .entry) ‼ j ⊖ now (ys .entry) ‼ j)) (length (now (row .entry))) ⌝ }
 {
     for j in 0..row.len() {
-        let x = here[j];
-        let y = next[j];
-        row[j] = row[j] + (x - y);
-        before[j] = x;
-        here[j] = y;
+        row[j] = row[j] + (xs[j] - ys[j]);
     }
 }
