@@ -69,7 +69,7 @@ enum {
    other call leaves both rooms as they were. What the rooms hold before a call does not matter. residuals and columns are only read.
 
    The function has no heap, keeps nothing between calls and calls nothing but memset and memcpy: threads may call it at once, each
-   with a result and rooms of its own. It wants some 50 KB of stack.
+   with a result and rooms of its own. It wants some 48 KB of stack.
 
    Duties of the caller, which nothing can check: the rows are in print order, which no positions show here; each pointer points to as
    many numbers as its length says, aligned to 8 bytes, and is not NULL even where the length is 0; matrix, parts and result overlap
