@@ -4,3 +4,9 @@ pub mod Accepted
 pub mod Worked
 pub mod One
 pub mod Half
+pub mod Seen
+pub mod Turned
+pub mod Scales
+pub mod Scaled
+pub mod Sizes
+pub mod Limits

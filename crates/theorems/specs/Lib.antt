@@ -1,3 +1,4 @@
 pub mod Document
 pub mod Full
 pub mod Sheets
+pub mod Scan
