@@ -10,3 +10,4 @@ pub mod Scales
 pub mod Scaled
 pub mod Sizes
 pub mod Limits
+pub mod Stroke

@@ -32,7 +32,7 @@ use Rattle.design.specs.declared.Alternative.{Alternative}
 use Rattle.dwtest.specs.declared.Outcome.{Outcome}
 use Rattle.dwtest.specs.declared.Choice.{Choice}
 use Rattle.theorems.proofs.Seen.{answer-same, alike, allowed}
-use Rattle.theorems.proofs.Scales.{lo, hi, powers-divide, powers-fit, Times, Pair, zeros-behind, none-alike, zero-is, is-finite, sums-times, size-of, number-of}
+use Rattle.theorems.proofs.Scales.{lo, hi, powers-divide, powers-fit, Times, Pair, zeros-behind, none-alike, zero-is, is-finite, zero-alone, sums-times, size-of, number-of}
 
 -- ---- the statistic, by its two sums
 abbrev told : Float → Float → Statistic
@@ -247,15 +247,10 @@ unit-allowed j e near held p q = allowed e (scaled j e) (unit j e near held p q)
 pub zero-unit : ZeroUnitLaw
 zero-unit j e held h = alike e (scaled j e) (scaled-long j e) (runs-told (record { long = scaled-long j e; ends = scaled-ends j e shifts; pairs = pairs }))
   where
-    only : (a b : Bool) → T b → T (a || not b) → T a
-    only true b p q = tt
-    only false true p q = absurd q
-    only false false p q = absurd p
-
     none : (t : ℕ) → t < length e → T (finite (e ‼ t)) → (u : Number (e ‼ t)) → u .units ≡ 0
     none t l f u =
         eqb→eq (u .units) 0
-        (subst T (zero-is (e ‼ t) (u .sign) (u .units) (u .val)) (only (eq (e ‼ t) plusZero) (finite (e ‼ t)) f (all-at (length e) (λ t. eq (e ‼ t) plusZero || not (finite (e ‼ t))) t h l)))
+        (subst T (zero-alone (e ‼ t) f ∙ zero-is (e ‼ t) (u .sign) (u .units) (u .val)) (all-at (length e) (λ t. eq (e ‼ t) plusZero || not (finite (e ‼ t))) t h l))
 
     shifts : (t : ℕ) → t < length e → T (finite (e ‼ t)) → Shift j (e ‼ t) (e ‼ t ⊗ power j)
     shifts t l f = let u = number-of e held t l f in shift-none u j (none t l f u)

@@ -14,6 +14,7 @@ use lib.Pow.{pow-add, pow-pos, pow-mono, shl-lt}
 use lib.IntN.{natAbs, _-ℤ_}
 use lib.ListN.{length}
 use lib.Ieee.{Float, nan, inf, fin, binary64, up, down, round, eq, ofBits, fits}
+use lib.Ieee.Bits.{is-true}
 use lib.Ieee.Exact.{round-exact}
 use lib.Ieee.Fits.{down-pos}
 use lib.Ieee.Scale.{grid, grid-scale, normal-of-fraction, round-same, finite}
@@ -272,12 +273,16 @@ zero-is (fin r m e) s g v = rw (zero-mul (down e), same (m * up e) (2 ^ 1074) (p
     go true false = refl
     go false r = refl
 
-pub sure : (b : Bool) → T b → b ≡ true
-sure true t = refl
-sure false t = absurd t
-
 pub is-finite : (x : Float) (s : Bool) (g : ℕ) → Valued x s g → finite x ≡ true
-is-finite x s g v = sure (finite x) (valued-finite x s g v)
+is-finite x s g v = is-true (finite x) (valued-finite x s g v)
+
+-- of a finite residual the test of `zeros` asks only whether it is 0
+pub zero-alone : (x : Float) → T (finite x) → eq x plusZero || not (finite x) ≡ eq x plusZero
+zero-alone x f = ap (λ (b : Bool). eq x plusZero || not b) (is-true (finite x) f) ∙ go (eq x plusZero)
+  where
+    go : (a : Bool) → a || false ≡ a
+    go true = refl
+    go false = refl
 
 -- ---- both sums, of n residuals
 pub sums-times : {k : ℕ} (e e' : List Float) (n : ℕ) → 2 ≤ n → ((t : ℕ) → t < n → Pair k (e ‼ t) (e' ‼ t))

@@ -2,16 +2,17 @@
 -- and no sum of them is lost to underflow or overflow. Then document 01's table, by its rows (Order's as-document). Assumes nothing.
 use mathlib.Core.Path.{_≡_, refl, sym, ap, _∙_, subst}
 use mathlib.Core.Logic.{_⊎_, inl, inr}
-use Prim.Native.Nat.{ℕ, zero, suc, _+_, _-_, _*_, _^_, _≤_, _<_}
+use Prim.Native.Nat.{ℕ, zero, suc, _+_, _*_, _^_, _≤_, _<_}
 use native.Mathlib.Nat.{le-refl, le-trans, le-of-eq, le-step, lt-of-le-of-lt, lt-irrefl, mul-one, mul-pos, mul-le-mul, mul-le-mul-right, eq-of-mul-eq-mul-right, add-le-add, eq-zero-or-pos}
 use native.Mathlib.Omega.{arith}
 use mathlib.Core.Bool.{Bool, true, false, not, _&&_, _||_, cond, true≢false}
 use mathlib.Core.List.{List, [], _∷_, _++_}
-use borrow.Author.Tests.{eqb-false, ne-eqb, not-true}
+use borrow.Author.Tests.{eqb-false, ne-eqb}
 use lib.Dec.{T, leb, eqb, leb→le, eqb·suc-zero, lit≤, lit<}
 use lib.Pow.{pow-pos, pow-mono}
 use lib.ListN.{length, take, drop}
 use lib.Ieee.{Float, binary64, round, eq, neg, ofBits}
+use lib.Ieee.Bits.{is-false}
 use lib.Ieee.Fits.{and-l, and-r}
 use lib.Ieee.Scale.{finite}
 use Rattle.floats.specs.Words.{_⊕_, _‼_, plusZero, minusZero, squareOf}
@@ -34,7 +35,7 @@ use Rattle.theorems.specs.Document.{Row, firstGiven, found, rows}
 use Rattle.theorems.specs.Scan.{sized, zeros, SizeRefusals}
 use Rattle.theorems.proofs.Order.{as-document}
 use Rattle.theorems.proofs.Seen.{two-at-least}
-use Rattle.theorems.proofs.Scales.{lo, hi, squareRoom, Times, Pair, none-alike, zero-is, is-finite, residual-square, sum-times, sums-times, sure, size-of, number-of}
+use Rattle.theorems.proofs.Scales.{lo, hi, squareRoom, Times, Pair, none-alike, zero-is, is-finite, residual-square, sum-times, zero-alone, sums-times, size-of, number-of}
 
 -- ---- a rounding, a sum and a square are 0 only where nothing else is there
 round-zero : (W : ℕ) → W < 2 ^ 2097 → eq (round binary64 false W (2 ^ 1074)) plusZero ≡ eqb W 0
@@ -99,7 +100,7 @@ sums e held size many none =
     let q = sums-times e e (length e) many own in (
       sum-zero (squareRoom + 54) (lit≤ tt) (λ t. squareOf (e ‼ t)) (length e) (λ (t : ℕ) (l : t < length e). residual-square (own t l))
           ∙ all-same (length e) (λ t. eq (squareOf (e ‼ t)) plusZero) (λ t. eq (e ‼ t) plusZero || not (finite (e ‼ t)))
-          (λ t l. square-zero (own t l .small) (own t l .from) ∙ only (eq (e ‼ t) plusZero) (finite (e ‼ t)) (all-finite e none t l)),
+          (λ t l. square-zero (own t l .small) (own t l .from) ∙ sym (zero-alone (e ‼ t) (all-finite e none t l))),
       rw (is-finite (squares e) false (q .0 .units) (q .0 .val), is-finite (differences e) false (q .1 .units) (q .1 .val)) refl,
     )
   where
@@ -108,11 +109,6 @@ sums e held size many none =
     own t l =
         let u = number-of e held t l (all-finite e none t l) in
         record { small = u; large = u; signs = refl; sizes = sym (mul-one (u .units)); from = size-of e size t l u; to = size-of e size t l u }
-
-    only : (a b : Bool) → T b → a ≡ a || not b
-    only true b h = refl
-    only false true h = refl
-    only false false h = absurd h
 
 -- ---- document 01's table
 
@@ -149,11 +145,11 @@ past-rows (r ∷ rs) rest h p =
 
 not-given : (i : ℕ) (rs : List Row) → T (without i rs) → eqb (firstGiven rs .number) i ≡ false
 unfolding firstGiven without
-not-given i [] h = not-true (eqb 0 i) (sure (not (eqb 0 i)) h)
+not-given i [] h = is-false (eqb 0 i) h
 not-given i (r ∷ rs) h = go (r .when) (and-l (not (eqb (r .gives .number) i)) (without i rs) h) (not-given i rs (and-r (not (eqb (r .gives .number) i)) (without i rs) h))
   where
     go : (b : Bool) → T (not (eqb (r .gives .number) i)) → eqb (firstGiven rs .number) i ≡ false → eqb (cond b (r .gives) (firstGiven rs) .number) i ≡ false
-    go true f g = not-true (eqb (r .gives .number) i) (sure (not (eqb (r .gives .number) i)) f)
+    go true f g = is-false (eqb (r .gives .number) i) f
     go false f g = g
 
 three : (a b c : Bool) → not a && (not b && (not c && true)) ≡ true → (a ≡ false) × (b ≡ false) × (c ≡ false)
