@@ -11,3 +11,4 @@ pub mod Scaled
 pub mod Sizes
 pub mod Limits
 pub mod Stroke
+pub mod Figures

@@ -77,6 +77,10 @@ bothSigns above = false
 bothSigns below = false
 bothSigns mixed = true
 
+-- an index of the QL step on M A M, b of n rows, still had a coupling left after its turn
+abbrev pub leftCoupled : ℕ → List Float → Bool
+leftCoupled n b = stuckOf n n (diagonalOf n (tridiagonalOf n b)) (couplingsOf n (tridiagonalOf n b)) noWork
+
 module _ (e x : List Float) (k : ℕ) (choice : Choice) (matrixRoom partRoom : ℕ) where
   -- the rows, M A M, the kept eigenvalues, and the law
   abbrev pub rowsOf : ℕ
@@ -138,17 +142,21 @@ module _ (e x : List Float) (k : ℕ) (choice : Choice) (matrixRoom partRoom : �
       ∷ row (not (finiteMatrix k (inverseOf x rowsOf k))) 13 1
       ∷ lastRows
 
-  -- an index of the QL step still had a coupling left after its turn
+  -- the sweeps left a coupling
   abbrev pub couplingWasLeft : Bool
-  couplingWasLeft = stuckOf rowsOf rowsOf (diagonalOf rowsOf (tridiagonalOf rowsOf productOf)) (couplingsOf rowsOf (tridiagonalOf rowsOf productOf)) noWork
+  couplingWasLeft = leftCoupled rowsOf productOf
 
   -- the final sum of the parts' errors, first to last
   abbrev pub errorSum : Float
   errorSum = sumRun (errorsOf (lastStage weightsLeft .parts))
 
+  -- the integral ended, where one was needed
+  abbrev pub integralEnded : Bool
+  integralEnded = not (bothSigns (signsOf weightsLeft)) || le errorSum tolerance
+
   -- THE MARK: the sweeps ended, and the integral where one was needed; both belong to the exact path
   abbrev pub settledDue : Bool
-  settledDue = not exactDue || (not couplingWasLeft && (not (bothSigns (signsOf weightsLeft)) || le errorSum tolerance))
+  settledDue = not exactDue || (not couplingWasLeft && integralEnded)
 
 -- g is given by a table: a row holds, gives g, and none above it holds
 unfoldable pub Given : List Row → Refusal → Type 0
