@@ -2,7 +2,7 @@
 -- rows they have, and the statistic (`exact-is`); and that path takes kept count and sweeps from the spectrum, into which no statistic comes. Assumes nothing.
 use mathlib.Core.Path.{_≡_, refl, sym, ap, _∙_, subst}
 use mathlib.Core.Bool.{Bool, true, false, not, _&&_, cond, true≢false}
-use Prim.Native.Nat.{ℕ}
+use Prim.Native.Nat.{ℕ, _*_}
 use native.Mathlib.Nat.{eq-of-mul-eq-mul-right, mul-comm}
 use mathlib.Core.List.{List, [], _∷_}
 use borrow.Author.Tests.{eqb-false}
@@ -12,7 +12,9 @@ use lib.Ieee.{Float, binary64, toBits, ofBits}
 use lib.Ieee.Bits.{ofBits-toBits}
 use lib.Ieee.Fits.{div-fits}
 use Rattle.floats.specs.Words.{one}
-use Rattle.floats.specs.declared.tally.Tally.{Tally}
+use Rattle.floats.specs.Search.{firstBad}
+use Rattle.floats.specs.declared.search.Found.{Found}
+use Rattle.floats.specs.declared.search.Found.the-variants.{At, Nothing}
 use Rattle.autocorrelation.specs.Statistic.{differences, squares, durbinWatson, durbinWatsonAnswer, value}
 use Rattle.design.specs.Sheet.{columnsOf}
 use Rattle.design.specs.Matrix.{Matrix}
@@ -21,27 +23,29 @@ use Rattle.design.specs.Law.{lawFrom, lawAnswer}
 use Rattle.design.specs.declared.Alternative.{Alternative}
 use Rattle.design.specs.declared.LawAnswer.{LawAnswer}
 use Rattle.design.specs.declared.LawAnswer.the-variants as answer
-use Rattle.eigen.specs.Spectrum.{spectrumOf, keptNumbers}
-use Rattle.eigen.specs.declared.Numbers.{Numbers}
+use Rattle.projection.specs.Projection.{mamOf}
+use Rattle.tridiagonal.specs.Reflection.{tridiagonalOf}
+use Rattle.eigen.specs.Spectrum.{bandsStuck, workedOf, numbersOf, keptBy, keptFrom, deliveredOf, deliveredNumbers, spectrumBy, numbersBy, spectrumOf, keptNumbers}
 use Rattle.eigen.specs.declared.Spectrum.{Spectrum}
 use Rattle.eigen.specs.declared.Spectrum.the-variants.{MatrixNotFinite, NumberNotFinite, Kept}
 use Rattle.imhof.specs.Imhof.{imhofOf}
-use Rattle.imhof.specs.declared.Estimate.{Estimate}
 use Rattle.imhof.specs.declared.Exact.{Exact}
 use Rattle.imhof.specs.declared.Exact.the-variants.{NoWeight, NotFinite, Value}
 use Rattle.dwtest.specs.Refusals.{passes, firstOf, columnsRefusal, statisticRefusal, roomRefusal, runChecks, designChecks}
 use Rattle.dwtest.specs.Result.{refusedOf, acceptedOf, wantsExact, noLaw}
 use Rattle.dwtest.specs.Paths.{normalPath, byLaw, fallenBack, bySpectrum, exactPath}
-use Rattle.dwtest.specs.Test.{unlessRefused, roomOf, exactOf, answerOf, designOf, testWith}
+use Rattle.dwtest.specs.Test.{unlessRefused, roomOf, exactOf, answerOf, designOf, testWith, testOf}
 use Rattle.dwtest.specs.declared.Refusal.{Refusal}
 use Rattle.dwtest.specs.declared.Outcome.{Outcome}
 use Rattle.dwtest.specs.declared.Choice.{Choice}
 use Rattle.dwtest.specs.declared.paths.Leaving.{Leaving}
 use Rattle.dwtest.proofs.SheetLaws.{Sized, sized-of}
 use Rattle.theorems.specs.Document.{exactDue, integralEnded}
-use Rattle.theorems.specs.Figures.{countIn, sweepsIn, Figures, figuresOf, figuresIn, resultOf, Exactly, passedOn, SameRows, FiguresShown, SameFigures, SameResult, PathTwo}
+use Rattle.theorems.specs.Sheets.{Sheet, resultOf}
+use Rattle.theorems.specs.Figures.{Figures, countIn, sweepsIn, figuresOf, figuresIn, passedOn, AcceptedExact, OneLayout, SameRows, FiguresShown, SameFigures, SameResult, SameOnPathTwo, FiguresCounted}
 use Rattle.theorems.proofs.Order.{value-is, as-document}
 use Rattle.theorems.proofs.Accepted.{every, statistic-is, settled-when}
+use Rattle.theorems.proofs.One.{Promised}
 
 -- ---- the checks: what is accepted has passed each, and is what comes after them
 past : (checks : List Refusal) (after : Outcome) → passes (unlessRefused checks after .refusal) ≡ true → (passes (firstOf checks) ≡ true) × (unlessRefused checks after ≡ after)
@@ -60,11 +64,12 @@ first-passes r rest passed = go (passes r) refl passed
     go true h q = (h, q)
     go false h q = absurd (true≢false (sym q ∙ h))
 
-both : (a b : Bool) → (not a && b) ≡ true → (a ≡ false) × (b ≡ true)
-both true b h = absurd (true≢false (sym h))
-both false b h = (refl, h)
+-- three rows or more, and exact
+enough : (few wanted : Bool) → (not few && wanted) ≡ true → (few ≡ false) × (wanted ≡ true)
+enough true wanted h = absurd (true≢false (sym h))
+enough false wanted h = (refl, h)
 
-module _ (e x : List Float) (k : ℕ) (a : Alternative) (c : Choice) (m p : ℕ) (exactly : Exactly e x k a c m p) where
+module _ (e x : List Float) (k : ℕ) (a : Alternative) (c : Choice) (m p : ℕ) (accepted : passes (testOf e x k a c m p .refusal) ≡ true) (due : exactDue e x k c m p ≡ true) where
   abbrev n : ℕ
   n = length e
 
@@ -72,9 +77,9 @@ module _ (e x : List Float) (k : ℕ) (a : Alternative) (c : Choice) (m p : ℕ)
   d = value (durbinWatsonAnswer e)
 
   -- past refusals 1 to 10
-  runs : (passes (firstOf (runChecks e x k)) ≡ true) × (resultOf e x k a c m p ≡ designOf roomOf x n k d a c m p)
+  runs : (passes (firstOf (runChecks e x k)) ≡ true) × (testOf e x k a c m p ≡ designOf roomOf x n k d a c m p)
   unfolding testWith
-  runs = past (runChecks e x k) (designOf roomOf x n k d a c m p) (exactly .0)
+  runs = past (runChecks e x k) (designOf roomOf x n k d a c m p) accepted
 
   sized : Sized x n k
   sized = sized-of x n k (first-passes (columnsRefusal (columnsOf x n k)) _ (runs .0) .0)
@@ -83,94 +88,162 @@ module _ (e x : List Float) (k : ℕ) (a : Alternative) (c : Choice) (m p : ℕ)
   told = value-is e x k a c m p (first-passes (statisticRefusal (durbinWatsonAnswer e)) _ (first-passes (columnsRefusal (columnsOf x n k)) _ (runs .0) .1) .0)
 
   -- past 11 and stage 1 of 13
-  design : resultOf e x k a c m p ≡ answerOf roomOf x n k d a c m p
+  design : testOf e x k a c m p ≡ answerOf roomOf x n k d a c m p
   unfolding designOf
-  design = runs .1 ∙ past (designChecks x n k) (answerOf roomOf x n k d a c m p) (subst (λ o. passes (o .refusal) ≡ true) (runs .1) (exactly .0)) .1
+  design = runs .1 ∙ past (designChecks x n k) (answerOf roomOf x n k d a c m p) (subst (λ o. passes (o .refusal) ≡ true) (runs .1) accepted) .1
 
   -- past 12
-  room : resultOf e x k a c m p ≡ exactOf roomOf x n k d a c m p
-  room = let due = both (ltb n 3) (wantsExact c n) (exactly .1) in design ∙ rw (due .0, due .1) refl
+  room : testOf e x k a c m p ≡ exactOf roomOf x n k d a c m p
+  room = let rows = enough (ltb n 3) (wantsExact c n) due in design ∙ rw (rows .0, rows .1) refl
 
   -- THE EXACT PATH: of the residuals, how many there are and their statistic come in, and nothing else
-  pub exact-is : resultOf e x k a c m p ≡ exactPath x n k (inverseOf x n k) (durbinWatson e) a
+  pub exact-is : testOf e x k a c m p ≡ exactPath x n k (inverseOf x n k) (durbinWatson e) a
   exact-is =
-      room ∙ past (roomRefusal (roomOf n) m p ∷ []) (exactPath x n k (inverseOf x n k) d a) (subst (λ o. passes (o .refusal) ≡ true) room (exactly .0)) .1
+      room ∙ past (roomRefusal (roomOf n) m p ∷ []) (exactPath x n k (inverseOf x n k) d a) (subst (λ o. passes (o .refusal) ≡ true) room accepted) .1
       ∙ ap (λ v. exactPath x n k (inverseOf x n k) v a) told
 
--- ---- the exact path's kept count and sweeps are the spectrum's
-module _ (x : List Float) (n k : ℕ) (inverse : Matrix) (d : Float) (a : Alternative) (numbers : List Float) (ended : Bool) where
-  abbrev Shows : ℕ → ℕ → Outcome → Type 0
-  Shows count sweeps o = passes (o .refusal) ≡ true → figuresIn numbers ended o ≡ record { eigenvalues = numbers; kept = count; sweeps = sweeps; settledSweeps = ended }
+-- ---- kept count and sweeps
+module _ (x : List Float) (n k : ℕ) (inverse : Matrix) (d : Float) (a : Alternative) where
+  -- paths 3 and 4 hand on what the exact path left
+  abbrev Hands : Leaving → Outcome → Type 0
+  Hands left o = passes (o .refusal) ≡ true → (o .kept ≡ left .kept) × (o .work ≡ left .work)
 
-  normal-shows : (left : Leaving) → Shows (left .kept) (left .work .sweeps) (normalPath x n k inverse d a left)
+  normal-hands : (left : Leaving) → Hands left (normalPath x n k inverse d a left)
   unfolding normalPath
-  normal-shows left = go (ltb n 5) (lawAnswer (lawFrom x n k inverse))
+  normal-hands left = go (ltb n 5) (lawAnswer (lawFrom x n k inverse))
     where
-      go : (b : Bool) (l : LawAnswer)
-          → Shows (left .kept) (left .work .sweeps) (cond b (acceptedOf d one a n 4 (left .fallback) (left .kept) (left .work) (left .settled) noLaw) (byLaw l d a n left))
-      go true l q = refl
-      go false (answer.Usable law) q = refl
+      go : (b : Bool) (l : LawAnswer) → Hands left (cond b (acceptedOf d one a n 4 (left .fallback) (left .kept) (left .work) (left .settled) noLaw) (byLaw l d a n left))
+      go true l q = (refl, refl)
+      go false (answer.Usable law) q = (refl, refl)
       go false answer.NotFinite q = absurd (true≢false (sym q))
       go false answer.NotSpread q = absurd (true≢false (sym q))
 
-  exact-shows : Shows (countIn (spectrumOf x inverse n k)) (sweepsIn (spectrumOf x inverse n k)) (exactPath x n k inverse d a)
+  -- of the exact path they are the spectrum's
+  exact-shows : (numbers : List Float) (ended : Bool) → passes (exactPath x n k inverse d a .refusal) ≡ true
+      → figuresIn numbers ended (exactPath x n k inverse d a)
+      ≡ record { eigenvalues = numbers; kept = countIn (spectrumOf x inverse n k); sweeps = sweepsIn (spectrumOf x inverse n k); settledSweeps = ended }
   unfolding exactPath
-  exact-shows = go (spectrumOf x inverse n k) (imhofOf (keptNumbers x inverse n k) d .answer) refl
+  exact-shows numbers ended = go (spectrumOf x inverse n k) (imhofOf (keptNumbers x inverse n k) d .answer) refl
     where
-      go : (s : Spectrum) (q : Exact) → imhofOf (keptNumbers x inverse n k) d .answer ≡ q → Shows (countIn s) (sweepsIn s) (bySpectrum x n k inverse d a s)
+      go : (s : Spectrum) (q : Exact) → imhofOf (keptNumbers x inverse n k) d .answer ≡ q → passes (bySpectrum x n k inverse d a s .refusal) ≡ true
+          → figuresIn numbers ended (bySpectrum x n k inverse d a s) ≡ record { eigenvalues = numbers; kept = countIn s; sweeps = sweepsIn s; settledSweeps = ended }
+      go (Kept s) (Value v) h = rw h (λ r. refl)
+      go (Kept s) NotFinite h = rw h (λ r. absurd (true≢false (sym r)))
+      go (Kept s) NoWeight h = rw h (λ r. let same = normal-hands (fallenBack s) r in rw (same .0, same .1) refl)
       go MatrixNotFinite q h = λ r. absurd (true≢false (sym r))
       go NumberNotFinite q h = λ r. absurd (true≢false (sym r))
-      go (Kept s) NoWeight h = rw h (normal-shows (fallenBack s))
-      go (Kept s) NotFinite h = rw h (λ r. absurd (true≢false (sym r)))
-      go (Kept s) (Value v) h = rw h (λ r. refl)
+
+-- the eigenvalues that are passed on are counted
+delivered-counted : (n k : ℕ) (b : List Float) → countIn (deliveredOf n k b) ≡ length (deliveredNumbers n k b)
+unfolding deliveredOf deliveredNumbers
+delivered-counted n k b = go (firstBad (numbersOf n b))
+  where
+    go : (bad : Found) → countIn (keptBy bad n k (numbersOf n b) (workedOf n b .work) (bandsStuck n (tridiagonalOf n b))) ≡ length (keptFrom bad n k (numbersOf n b))
+    go (At t) = refl
+    go Nothing = refl
+
+pub figures-counted : FiguresCounted
+unfolding spectrumOf keptNumbers
+figures-counted x n k = go (firstBad (mamOf x (inverseOf x n k) n k))
+  where
+    go : (bad : Found) → countIn (spectrumBy bad n k (mamOf x (inverseOf x n k) n k)) ≡ length (numbersBy bad n k (mamOf x (inverseOf x n k) n k))
+    go (At t) = refl
+    go Nothing = delivered-counted n k (mamOf x (inverseOf x n k) n k)
 
 -- ---- one call
-shown : (e x : List Float) (k : ℕ) (a : Alternative) (c : Choice) (m p : ℕ) → Exactly e x k a c m p → passedOn e x k a c m p ≡ figuresOf x (length e) k
-shown e x k a c m p h =
-    let is = exact-is e x k a c m p h in
-    ap (figuresIn (figuresOf x (length e) k .eigenvalues) (figuresOf x (length e) k .settledSweeps)) is
-    ∙ exact-shows x (length e) k (inverseOf x (length e) k) (durbinWatson e) a (figuresOf x (length e) k .eigenvalues) (figuresOf x (length e) k .settledSweeps)
-    (subst (λ (o : Outcome). passes (o .refusal) ≡ true) is (h .0))
+module _ (s : Sheet) where
+  abbrev e : List Float
+  e = s .residuals
 
--- where nothing is refused and the exact path is due, settled is both halves
-settled-halves : (e x : List Float) (k : ℕ) (a : Alternative) (c : Choice) (m p : ℕ) → Exactly e x k a c m p
-    → resultOf e x k a c m p .settled ≡ (figuresOf x (length e) k .settledSweeps && integralEnded e x k c m p)
-settled-halves e x k a c m p h =
-    settled-when e x k a c m p ∙ rw (← as-document e x k a c m p, h .0, h .1) refl
+  abbrev x : List Float
+  x = s .columns
+
+  abbrev rows : ℕ
+  rows = length (s .residuals)
+
+  abbrev k : ℕ
+  k = s .count
+
+  module _ (h : AcceptedExact s) where
+    layout-sized : Sized x rows k
+    layout-sized = sized e x k (s .alternative) (s .choice) (s .matrixRoom) (s .partRoom) (h .accepted) (h .due)
+
+    by-exact-path : resultOf s ≡ exactPath x rows k (inverseOf x rows k) (durbinWatson e) (s .alternative)
+    by-exact-path = exact-is e x k (s .alternative) (s .choice) (s .matrixRoom) (s .partRoom) (h .accepted) (h .due)
+
+    figures-are : passedOn s ≡ figuresOf x rows k
+    figures-are =
+        let f = figuresOf x rows k in
+        ap (figuresIn (f .eigenvalues) (f .settledSweeps)) by-exact-path
+        ∙ exact-shows x rows k (inverseOf x rows k) (durbinWatson e) (s .alternative) (f .eigenvalues) (f .settledSweeps) (subst (λ (o : Outcome). passes (o .refusal) ≡ true) by-exact-path (h .accepted))
+
+    -- nothing is refused, and the exact path is due: settled is both halves
+    both-halves : resultOf s .settled ≡ (figuresOf x rows k .settledSweeps && integralEnded e x k (s .choice) (s .matrixRoom) (s .partRoom))
+    both-halves =
+        settled-when e x k (s .alternative) (s .choice) (s .matrixRoom) (s .partRoom)
+        ∙ rw (← as-document e x k (s .alternative) (s .choice) (s .matrixRoom) (s .partRoom), h .accepted, h .due) refl
+
+    -- the statistic is a quotient, and a quotient is the value of its bits
+    by-bits : durbinWatson e ≡ ofBits binary64 (toBits binary64 (resultOf s .statistic))
+    by-bits =
+        sym (ofBits-toBits binary64 (durbinWatson e) (div-fits binary64 (differences e) (squares e)))
+        ∙ ap (λ (d : Float). ofBits binary64 (toBits binary64 d)) (sym (statistic-is e x k (s .alternative) (s .choice) (s .matrixRoom) (s .partRoom) (h .accepted)))
+
+  -- one that path 2 answered is accepted and exact
+  path-two : resultOf s .path ≡ 2 → AcceptedExact s
+  path-two q = let g = go q in record { accepted = g .0; due = g .1 }
+    where
+      go : resultOf s .path ≡ 2 → (passes (resultOf s .refusal) ≡ true) × (exactDue e x k (s .choice) (s .matrixRoom) (s .partRoom) ≡ true)
+      go = every e x k (s .alternative) (s .choice) (s .matrixRoom) (s .partRoom)
+          (λ o. o .path ≡ 2 → (passes (o .refusal) ≡ true) × (exactDue e x k (s .choice) (s .matrixRoom) (s .partRoom) ≡ true)) (record {
+            refused = λ r h q. absurd (eqb-false 0 2 refl q);
+            short = λ h q. absurd (eqb-false 1 2 refl q);
+            early = λ left h q. absurd (eqb-false 4 2 refl q);
+            normal = λ left law h l q. absurd (eqb-false 3 2 refl q);
+            exact = λ n v u h t w q. (refl, u);
+          })
 
 pub figures-shown : FiguresShown
-figures-shown e x k a c m p h = (shown e x k a c m p h, settled-halves e x k a c m p h)
+figures-shown s h = (figures-are s h, both-halves s h)
 
 -- ---- two calls
--- k columns of either number of rows are one run
+-- both have as many columns, in one run
 pub same-rows : SameRows
-same-rows e e' x k a c m p h h' =
-    let s = sized e x k a c m p h in
-    let t = sized e' x k a c m p h' in
-    eq-of-mul-eq-mul-right k (s .some) (length e) (length e') (mul-comm (length e) k ∙ s .run ∙ sym (t .run) ∙ mul-comm k (length e'))
+same-rows s s' layout h h' =
+    let n = length (s .residuals) in
+    let n' = length (s' .residuals) in
+    eq-of-mul-eq-mul-right (s .count) (layout-sized s h .some) n n'
+    (mul-comm n (s .count) ∙ layout-sized s h .run ∙ ap length (layout .columns) ∙ sym (layout-sized s' h' .run) ∙ ap (λ (k : ℕ). k * n') (sym (layout .count)) ∙ mul-comm (s .count) n')
 
 pub same-figures : SameFigures
-same-figures e e' x k a c m p h h' =
-    figures-shown e x k a c m p h .0 ∙ ap (λ (n : ℕ). figuresOf x n k) (same-rows e e' x k a c m p h h') ∙ sym (figures-shown e' x k a c m p h' .0)
-
--- a quotient is what its bits say
-by-bits : (e : List Float) → ofBits binary64 (toBits binary64 (durbinWatson e)) ≡ durbinWatson e
-by-bits e = ofBits-toBits binary64 (durbinWatson e) (div-fits binary64 (differences e) (squares e))
+same-figures s s' layout h h' =
+    figures-are s h
+    ∙ ap (λ (x : List Float). figuresOf x (length (s .residuals)) (s .count)) (layout .columns)
+    ∙ ap (λ (n : ℕ). figuresOf (s' .columns) n (s .count)) (same-rows s s' layout h h')
+    ∙ ap (λ (k : ℕ). figuresOf (s' .columns) (length (s' .residuals)) k) (layout .count)
+    ∙ sym (figures-are s' h')
 
 pub same-result : SameResult
-same-result e e' x k a c m p h h' bits =
-    let d = ap (toBits binary64) (statistic-is e x k a c m p (h .0)) in
-    let d' = ap (toBits binary64) (statistic-is e' x k a c m p (h' .0)) in
-    let v = sym (by-bits e) ∙ ap (ofBits binary64) (sym d ∙ bits ∙ d') ∙ by-bits e' in
-    exact-is e x k a c m p h ∙ ap (λ (n : ℕ). exactPath x n k (inverseOf x n k) (durbinWatson e) a) (same-rows e e' x k a c m p h h')
-    ∙ ap (λ (v : Float). exactPath x (length e') k (inverseOf x (length e') k) v a) v ∙ sym (exact-is e' x k a c m p h')
+same-result s s' layout h h' bits =
+    let d : durbinWatson (s .residuals) ≡ durbinWatson (s' .residuals) = by-bits s h ∙ ap (ofBits binary64) bits ∙ sym (by-bits s' h') in
+    by-exact-path s h ∙ rw (d, layout .columns, same-rows s s' layout h h', layout .count, layout .alternative) refl ∙ sym (by-exact-path s' h')
 
--- ---- the narrower reading of exact: answered by path 2
-pub path-two : PathTwo
-path-two e x k a c m p = every e x k a c m p (λ o. o .path ≡ 2 → (passes (o .refusal) ≡ true) × (exactDue e x k c m p ≡ true)) (record {
-  refused = λ r h q. absurd (eqb-false 0 2 refl q);
-  short = λ h q. absurd (eqb-false 1 2 refl q);
-  early = λ left h q. absurd (eqb-false 4 2 refl q);
-  normal = λ left law h l q. absurd (eqb-false 3 2 refl q);
-  exact = λ s v u h t w q. (refl, u);
-})
+-- the narrower reading of exact
+pub same-on-path-two : SameOnPathTwo
+same-on-path-two s s' layout q q' = same-figures s s' layout (path-two s q) (path-two s' q')
+
+-- ---- whatever results the promise of `durbin_watson_test` allows for two calls
+abbrev asked : List Float → List Float → ℕ → Alternative → Choice → List Float → List Float → Sheet
+asked e x k a c matrix parts = record { residuals = e; columns = x; count = k; alternative = a; choice = c; matrixRoom = length matrix; partRoom = length parts }
+
+pub figures-allowed : (e e' x : List Float) (k : ℕ) (a : Alternative) (c : Choice) (matrix matrix' parts parts' : List Float)
+    → length matrix ≡ length matrix' → length parts ≡ length parts'
+    → AcceptedExact (asked e x k a c matrix parts) → AcceptedExact (asked e' x k a c matrix' parts')
+    → (r r' : Outcome) (m m' p p' : List Float) → Promised e x k a c matrix parts r m p → Promised e' x k a c matrix' parts' r' m' p'
+    → (r .kept ≡ r' .kept) × (r .work .sweeps ≡ r' .work .sweeps) × (toBits binary64 (r .statistic) ≡ toBits binary64 (r' .statistic) → r ≡ r')
+figures-allowed e e' x k a c matrix matrix' parts parts' same-matrix same-parts h h' r r' m m' p p' f f' =
+    let s = asked e x k a c matrix parts in
+    let s' = asked e' x k a c matrix' parts' in
+    let layout : OneLayout s s' = record { columns = refl; count = refl; alternative = refl; choice = refl; matrixRoom = same-matrix; partRoom = same-parts } in
+    let g = same-figures s s' layout h h' in
+    rw (f .0, f' .0) (ap (λ (g : Figures). g .kept) g, ap (λ (g : Figures). g .sweeps) g, same-result s s' layout h h')

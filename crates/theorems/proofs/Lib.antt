@@ -12,3 +12,4 @@ pub mod Sizes
 pub mod Limits
 pub mod Stroke
 pub mod Figures
+pub mod Faces
