@@ -26,14 +26,16 @@ use Rattle.design.specs.declared.LawAnswer.the-variants as answer
 use Rattle.projection.specs.Projection.{mamOf}
 use Rattle.tridiagonal.specs.Reflection.{tridiagonalOf}
 use Rattle.eigen.specs.Spectrum.{bandsStuck, workedOf, numbersOf, keptBy, keptFrom, deliveredOf, deliveredNumbers, spectrumBy, numbersBy, spectrumOf, keptNumbers}
+use Rattle.eigen.specs.declared.Numbers.{Numbers}
 use Rattle.eigen.specs.declared.Spectrum.{Spectrum}
 use Rattle.eigen.specs.declared.Spectrum.the-variants.{MatrixNotFinite, NumberNotFinite, Kept}
 use Rattle.imhof.specs.Imhof.{imhofOf}
+use Rattle.imhof.specs.declared.Estimate.{Estimate}
 use Rattle.imhof.specs.declared.Exact.{Exact}
 use Rattle.imhof.specs.declared.Exact.the-variants.{NoWeight, NotFinite, Value}
 use Rattle.dwtest.specs.Refusals.{passes, firstOf, columnsRefusal, statisticRefusal, roomRefusal, runChecks, designChecks}
 use Rattle.dwtest.specs.Result.{refusedOf, acceptedOf, wantsExact, noLaw}
-use Rattle.dwtest.specs.Paths.{normalPath, byLaw, fallenBack, bySpectrum, exactPath}
+use Rattle.dwtest.specs.Paths.{normalPath, byLaw, fallenBack, byImhof, bySpectrum, exactPath}
 use Rattle.dwtest.specs.Test.{unlessRefused, roomOf, exactOf, answerOf, designOf, testWith, testOf}
 use Rattle.dwtest.specs.declared.Refusal.{Refusal}
 use Rattle.dwtest.specs.declared.Outcome.{Outcome}
@@ -118,20 +120,26 @@ module _ (x : List Float) (n k : ℕ) (inverse : Matrix) (d : Float) (a : Altern
       go false answer.NotFinite q = absurd (true≢false (sym q))
       go false answer.NotSpread q = absurd (true≢false (sym q))
 
-  -- of the exact path they are the spectrum's
-  exact-shows : (numbers : List Float) (ended : Bool) → passes (exactPath x n k inverse d a .refusal) ≡ true
-      → figuresIn numbers ended (exactPath x n k inverse d a)
-      ≡ record { eigenvalues = numbers; kept = countIn (spectrumOf x inverse n k); sweeps = sweepsIn (spectrumOf x inverse n k); settledSweeps = ended }
-  unfolding exactPath
-  exact-shows numbers ended = go (spectrumOf x inverse n k) (imhofOf (keptNumbers x inverse n k) d .answer) refl
-    where
-      go : (s : Spectrum) (q : Exact) → imhofOf (keptNumbers x inverse n k) d .answer ≡ q → passes (bySpectrum x n k inverse d a s .refusal) ≡ true
-          → figuresIn numbers ended (bySpectrum x n k inverse d a s) ≡ record { eigenvalues = numbers; kept = countIn s; sweeps = sweepsIn s; settledSweeps = ended }
-      go (Kept s) (Value v) h = rw h (λ r. refl)
-      go (Kept s) NotFinite h = rw h (λ r. absurd (true≢false (sym r)))
-      go (Kept s) NoWeight h = rw h (λ r. let same = normal-hands (fallenBack s) r in rw (same .0, same .1) refl)
-      go MatrixNotFinite q h = λ r. absurd (true≢false (sym r))
-      go NumberNotFinite q h = λ r. absurd (true≢false (sym r))
+  -- of the exact path they are the spectrum's, whatever the eigenvalues and the sweep half are
+  module _ (numbers : List Float) (ended : Bool) where
+    abbrev figures : ℕ → ℕ → Figures
+    figures kept sweeps = record { eigenvalues = numbers; kept = kept; sweeps = sweeps; settledSweeps = ended }
+
+    -- by path 2
+    value-shows : (s : Numbers) (v : Estimate) → figuresIn numbers ended (byImhof x n k inverse d a (Value v) s) ≡ figures (s .count) (s .work .sweeps)
+    value-shows s v = refl
+
+    exact-shows : passes (exactPath x n k inverse d a .refusal) ≡ true → figuresIn numbers ended (exactPath x n k inverse d a) ≡ figures (countIn (spectrumOf x inverse n k)) (sweepsIn (spectrumOf x inverse n k))
+    unfolding exactPath
+    exact-shows = go (spectrumOf x inverse n k) (imhofOf (keptNumbers x inverse n k) d .answer) refl
+      where
+        go : (s : Spectrum) (q : Exact) → imhofOf (keptNumbers x inverse n k) d .answer ≡ q → passes (bySpectrum x n k inverse d a s .refusal) ≡ true
+            → figuresIn numbers ended (bySpectrum x n k inverse d a s) ≡ figures (countIn s) (sweepsIn s)
+        go MatrixNotFinite q h = λ r. absurd (true≢false (sym r))
+        go NumberNotFinite q h = λ r. absurd (true≢false (sym r))
+        go (Kept s) NoWeight h = rw h (λ r. let same = normal-hands (fallenBack s) r in rw (same .0, same .1) refl)
+        go (Kept s) NotFinite h = rw h (λ r. absurd (true≢false (sym r)))
+        go (Kept s) (Value v) h = rw h (λ r. value-shows s v)
 
 -- the eigenvalues that are passed on are counted
 delivered-counted : (n k : ℕ) (b : List Float) → countIn (deliveredOf n k b) ≡ length (deliveredNumbers n k b)
@@ -212,8 +220,9 @@ pub same-rows : SameRows
 same-rows s s' layout h h' =
     let n = length (s .residuals) in
     let n' = length (s' .residuals) in
+    let run : length (s .columns) ≡ length (s' .columns) = ap length (layout .columns) in
     eq-of-mul-eq-mul-right (s .count) (layout-sized s h .some) n n'
-    (mul-comm n (s .count) ∙ layout-sized s h .run ∙ ap length (layout .columns) ∙ sym (layout-sized s' h' .run) ∙ ap (λ (k : ℕ). k * n') (sym (layout .count)) ∙ mul-comm (s .count) n')
+    (mul-comm n (s .count) ∙ layout-sized s h .run ∙ run ∙ sym (layout-sized s' h' .run) ∙ ap (λ (k : ℕ). k * n') (sym (layout .count)) ∙ mul-comm (s .count) n')
 
 pub same-figures : SameFigures
 same-figures s s' layout h h' =
