@@ -1,8 +1,8 @@
 -- What a layout's figures may show: specs/Figures.antt's laws. One idea: an accepted exact call is past every check, so its result is `exactPath` of the columns, how many
 -- rows they have, and the statistic (`exact-is`); and that path takes kept count and sweeps from the spectrum, into which no statistic comes. Assumes nothing.
 use mathlib.Core.Path.{_≡_, refl, sym, ap, _∙_, subst}
-use mathlib.Core.Bool.{Bool, true, false, not, _&&_, cond, true≢false}
-use Prim.Native.Nat.{ℕ, _*_}
+use mathlib.Core.Bool.{Bool, true, false, not, _&&_, cond, true≢false, and-true}
+use Prim.Native.Nat.{ℕ, _*_, _<_}
 use native.Mathlib.Nat.{eq-of-mul-eq-mul-right, mul-comm}
 use mathlib.Core.List.{List, [], _∷_}
 use borrow.Author.Tests.{eqb-false}
@@ -33,6 +33,7 @@ use Rattle.imhof.specs.Imhof.{imhofOf}
 use Rattle.imhof.specs.declared.Estimate.{Estimate}
 use Rattle.imhof.specs.declared.Exact.{Exact}
 use Rattle.imhof.specs.declared.Exact.the-variants.{NoWeight, NotFinite, Value}
+use Rattle.imhof.proofs.Ending.{few-small}
 use Rattle.dwtest.specs.Refusals.{passes, firstOf, columnsRefusal, statisticRefusal, roomRefusal, runChecks, designChecks}
 use Rattle.dwtest.specs.Result.{refusedOf, acceptedOf, wantsExact, noLaw}
 use Rattle.dwtest.specs.Paths.{normalPath, byLaw, fallenBack, byImhof, bySpectrum, exactPath}
@@ -44,7 +45,7 @@ use Rattle.dwtest.specs.declared.paths.Leaving.{Leaving}
 use Rattle.dwtest.proofs.SheetLaws.{Sized, sized-of}
 use Rattle.theorems.specs.Document.{exactDue, integralEnded}
 use Rattle.theorems.specs.Sheets.{Sheet, resultOf}
-use Rattle.theorems.specs.Figures.{Figures, countIn, sweepsIn, figuresOf, figuresIn, passedOn, AcceptedExact, OneLayout, SameRows, FiguresShown, SameFigures, SameResult, SameOnPathTwo, FiguresCounted}
+use Rattle.theorems.specs.Figures.{Figures, countIn, sweepsIn, figuresOf, figuresIn, passedOn, AcceptedExact, OneLayout, SameRows, FiguresShown, SameFigures, SameResult, SweepHalfTold, SameOnPathTwo, FiguresCounted}
 use Rattle.theorems.proofs.Order.{value-is, as-document}
 use Rattle.theorems.proofs.Accepted.{every, statistic-is, settled-when}
 use Rattle.theorems.proofs.One.{Promised}
@@ -191,6 +192,17 @@ module _ (s : Sheet) where
         settled-when e x k (s .alternative) (s .choice) (s .matrixRoom) (s .partRoom)
         ∙ rw (← as-document e x k (s .alternative) (s .choice) (s .matrixRoom) (s .partRoom), h .accepted, h .due) refl
 
+    -- no integral of fewer than 2,000 bisections runs out
+    half-alone : resultOf s .work .bisections < 2000 → resultOf s .settled ≡ figuresOf x rows k .settledSweeps
+    half-alone few = every e x k (s .alternative) (s .choice) (s .matrixRoom) (s .partRoom)
+        (λ o. passes (o .refusal) ≡ true → o .work .bisections < 2000 → o .settled ≡ figuresOf x rows k .settledSweeps) (record {
+          refused = λ r u q b. absurd (true≢false (sym q ∙ u));
+          short = λ u q b. absurd (true≢false (sym u ∙ enough (ltb rows 3) (wantsExact (s .choice) rows) (h .due) .0));
+          early = λ left u q b. u .2 ∙ rw (h .due) refl;
+          normal = λ left law u l q b. u .2 ∙ rw (h .due) refl;
+          exact = λ n v u t g w q b. rw (g, few-small (figuresOf x rows k .eigenvalues) (durbinWatson e) v w b) (and-true (figuresOf x rows k .settledSweeps));
+        }) (h .accepted) few
+
     -- the statistic is a quotient, and a quotient is the value of its bits
     by-bits : durbinWatson e ≡ ofBits binary64 (toBits binary64 (resultOf s .statistic))
     by-bits =
@@ -213,6 +225,9 @@ module _ (s : Sheet) where
 
 pub figures-shown : FiguresShown
 figures-shown s h = (figures-are s h, both-halves s h)
+
+pub sweep-half-told : SweepHalfTold
+sweep-half-told = half-alone
 
 -- ---- two calls
 -- both have as many columns, in one run

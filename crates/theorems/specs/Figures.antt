@@ -1,7 +1,7 @@
 -- What a layout's figures may show (document 02, W-213). Four figures of an accepted exact call are passed on: the kept eigenvalues, their count, the sweeps, and whether the
 -- sweeps ended. They stand here as the columns alone give them and as a call has them; the laws, as types, say that these are one, so that two calls of one layout pass on the
 -- same however their residuals differ. proofs/Figures.antt proves them. Nothing is said of time, and nothing of refused calls. Definitions only. Assumes nothing.
-use Prim.Native.Nat.{ℕ}
+use Prim.Native.Nat.{ℕ, _<_}
 use mathlib.Core.Path.{_≡_}
 use mathlib.Core.Bool.{Bool, true, not, _&&_}
 use mathlib.Core.List.{List}
@@ -91,6 +91,11 @@ abbrev pub SameResult : Type 0
 SameResult =
     (s s' : Sheet) → OneLayout s s' → AcceptedExact s → AcceptedExact s'
     → toBits binary64 (resultOf s .statistic) ≡ toBits binary64 (resultOf s' .statistic) → resultOf s ≡ resultOf s'
+
+-- the mark is the sweep half by itself with fewer than 2,000 bisections, so that a line then tells it
+abbrev pub SweepHalfTold : Type 0
+SweepHalfTold =
+    (s : Sheet) → AcceptedExact s → resultOf s .work .bisections < 2000 → resultOf s .settled ≡ figuresOf (s .columns) (length (s .residuals)) (s .count) .settledSweeps
 
 -- the same of calls that path 2 answered, which are among these
 abbrev pub SameOnPathTwo : Type 0
