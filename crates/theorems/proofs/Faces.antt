@@ -32,7 +32,7 @@ use Rattle.dwtest.specs.Paths.{exactPath}
 use Rattle.dwtest.specs.Test.{designOf, testWith}
 use Rattle.dwtest.specs.declared.Choice.the-variants.{Exact}
 use Rattle.theorems.specs.Sheets.{Sheet, sheet, resultOf, minusOne}
-use Rattle.theorems.specs.Figures.{Figures, passedOn}
+use Rattle.theorems.specs.Figures.{Figures, passedOn, AcceptedExact}
 
 -- residuals on a column 0, 1, 0, asked exactly, with room enough
 abbrev face : List Float → Sheet
@@ -45,12 +45,13 @@ rough = face (one ∷ minusOne ∷ one ∷ [])
 abbrev smooth : Sheet
 smooth = face (one ∷ one ∷ plusZero ∷ [])
 
--- 1 and 1, no sweep
+-- the eigenvalues 1 and 1, and no sweep
 abbrev figures : Figures
 figures = record { eigenvalues = one ∷ one ∷ []; kept = 2; sweeps = 0; settledSweeps = true }
 
--- the figures are the same, and p is 1 for the first and 0 for the second
-pub others-differ : (passedOn rough ≡ figures) × (passedOn smooth ≡ figures)
+-- both are calls that the laws speak of; their figures are the same, and p is 1 for the first and 0 for the second
+pub others-differ : AcceptedExact rough × AcceptedExact smooth
+    × (passedOn rough ≡ figures) × (passedOn smooth ≡ figures)
     × (resultOf rough .p ≡ one) × (resultOf smooth .p ≡ plusZero)
 unfolding testWith designOf firstOf exactPath durbinWatsonAnswer firstBad pivotsOf failsAt factorOf leftTo lowerInverse inverseFrom matrix row table every turns firstWhere sumOf add sub mul div neg le lt eq isNan sqrtOf hypotOf rootIn isqrt rootOf ofInt ofBits minus absOf halfEntry triangle half weight hat residual product columnOf imageOf correctionOf reflectedEntry reflected settled qlOf stuckOf negligible rotated blockEnd shiftOf sweepFrom sweepOf insert falling large keptOf bandsWorked deliveredOf deliveredNumbers bandsStuck spectrumOf keptNumbers weightsOf weights.every clampOf imhofOf
-others-differ = (refl, refl, refl, refl)
+others-differ = (record { accepted = refl; due = refl }, record { accepted = refl; due = refl }, refl, refl, refl, refl)
