@@ -45,7 +45,7 @@ use Rattle.dwtest.specs.declared.paths.Leaving.{Leaving}
 use Rattle.dwtest.proofs.SheetLaws.{Sized, sized-of}
 use Rattle.theorems.specs.Document.{exactDue, integralEnded}
 use Rattle.theorems.specs.Sheets.{Sheet, resultOf}
-use Rattle.theorems.specs.Figures.{Figures, countIn, sweepsIn, figuresOf, figuresIn, passedOn, AcceptedExact, OneLayout, SameRows, FiguresShown, SameFigures, SameResult, SweepHalfTold, SameOnPathTwo, FiguresCounted}
+use Rattle.theorems.specs.Figures.{Figures, countIn, sweepsIn, figuresOf, figuresIn, passedOn, AcceptedExact, OneLayout, FiguresShown, SweepHalfTold, FiguresCounted, SameRows, SameFigures, SameOnPathTwo, SameResult}
 use Rattle.theorems.proofs.Order.{value-is, as-document}
 use Rattle.theorems.proofs.Accepted.{every, statistic-is, settled-when}
 use Rattle.theorems.proofs.One.{Promised}

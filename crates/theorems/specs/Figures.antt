@@ -71,10 +71,6 @@ pub record OneLayout (s s' : Sheet) : Type 0 where
   pub partRoom : s .partRoom ≡ s' .partRoom
 
 -- ---- the laws
--- as many rows: those of the columns
-abbrev pub SameRows : Type 0
-SameRows = (s s' : Sheet) → OneLayout s s' → AcceptedExact s → AcceptedExact s' → length (s .residuals) ≡ length (s' .residuals)
-
 -- THE FIGURES of a call are those of its layout, and settled is their sweep half and that the integral ended, where one was needed
 abbrev pub FiguresShown : Type 0
 FiguresShown =
@@ -82,25 +78,29 @@ FiguresShown =
     → (passedOn s ≡ figuresOf (s .columns) (length (s .residuals)) (s .count))
     × (resultOf s .settled ≡ (figuresOf (s .columns) (length (s .residuals)) (s .count) .settledSweeps && integralEnded (s .residuals) (s .columns) (s .count) (s .choice) (s .matrixRoom) (s .partRoom)))
 
--- so two calls of one layout pass on the same, all four figures
-abbrev pub SameFigures : Type 0
-SameFigures = (s s' : Sheet) → OneLayout s s' → AcceptedExact s → AcceptedExact s' → passedOn s ≡ passedOn s'
-
--- and have one result, every field, where their statistics are equal in bits
-abbrev pub SameResult : Type 0
-SameResult =
-    (s s' : Sheet) → OneLayout s s' → AcceptedExact s → AcceptedExact s'
-    → toBits binary64 (resultOf s .statistic) ≡ toBits binary64 (resultOf s' .statistic) → resultOf s ≡ resultOf s'
-
--- the mark is the sweep half by itself with fewer than 2,000 bisections, so that a line then tells it
+-- with fewer than 2,000 bisections settled is the sweep half by itself, so that a line tells it
 abbrev pub SweepHalfTold : Type 0
 SweepHalfTold =
     (s : Sheet) → AcceptedExact s → resultOf s .work .bisections < 2000 → resultOf s .settled ≡ figuresOf (s .columns) (length (s .residuals)) (s .count) .settledSweeps
 
--- the same of calls that path 2 answered, which are among these
+-- the eigenvalues are the ones that are counted
+abbrev pub FiguresCounted : Type 0
+FiguresCounted = (x : List Float) (n k : ℕ) → figuresOf x n k .kept ≡ length (figuresOf x n k .eigenvalues)
+
+-- TWO CALLS of one layout have as many rows: those of the columns
+abbrev pub SameRows : Type 0
+SameRows = (s s' : Sheet) → OneLayout s s' → AcceptedExact s → AcceptedExact s' → length (s .residuals) ≡ length (s' .residuals)
+
+-- so they pass on the same, all four figures
+abbrev pub SameFigures : Type 0
+SameFigures = (s s' : Sheet) → OneLayout s s' → AcceptedExact s → AcceptedExact s' → passedOn s ≡ passedOn s'
+
+-- in particular where path 2 answered both
 abbrev pub SameOnPathTwo : Type 0
 SameOnPathTwo = (s s' : Sheet) → OneLayout s s' → resultOf s .path ≡ 2 → resultOf s' .path ≡ 2 → passedOn s ≡ passedOn s'
 
--- the eigenvalues passed on are the ones that are counted
-abbrev pub FiguresCounted : Type 0
-FiguresCounted = (x : List Float) (n k : ℕ) → figuresOf x n k .kept ≡ length (figuresOf x n k .eigenvalues)
+-- and they have one result, every field, where their statistics are equal in bits
+abbrev pub SameResult : Type 0
+SameResult =
+    (s s' : Sheet) → OneLayout s s' → AcceptedExact s → AcceptedExact s'
+    → toBits binary64 (resultOf s .statistic) ≡ toBits binary64 (resultOf s' .statistic) → resultOf s ≡ resultOf s'
