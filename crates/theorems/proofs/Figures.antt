@@ -7,7 +7,8 @@ use native.Mathlib.Nat.{eq-of-mul-eq-mul-right, mul-comm}
 use mathlib.Core.List.{List, [], _∷_}
 use borrow.Author.Tests.{eqb-false}
 use lib.Dec.{ltb}
-use lib.ListN.{length}
+use lib.ListN.{length, take, drop}
+use lib.Seq.{take-at}
 use lib.Ieee.{Float, binary64, toBits, ofBits}
 use lib.Ieee.Bits.{ofBits-toBits}
 use lib.Ieee.Fits.{div-fits}
@@ -49,6 +50,7 @@ use Rattle.theorems.specs.Figures.{Figures, countIn, sweepsIn, figuresOf
 use Rattle.theorems.proofs.Order.{value-is, as-document}
 use Rattle.theorems.proofs.Accepted.{every, statistic-is, settled-when}
 use Rattle.theorems.proofs.One.{Promised}
+use Rattle.theorems.proofs.One as outcomes
 
 -- ---- the checks: what is accepted has passed each, and is what comes after them
 past : (checks : List Refusal) (after : Outcome) → passes (unlessRefused checks after .refusal) ≡ true → (passes (firstOf checks) ≡ true) × (unlessRefused checks after ≡ after)
@@ -158,6 +160,13 @@ figures-counted x n k = go (firstBad (mamOf x (inverseOf x n k) n k))
     go : (bad : Found) → countIn (spectrumBy bad n k (mamOf x (inverseOf x n k) n k)) ≡ length (numbersBy bad n k (mamOf x (inverseOf x n k) n k))
     go (At t) = refl
     go Nothing = delivered-counted n k (mamOf x (inverseOf x n k) n k)
+
+-- and they are what any run begins with that the promise of `ma_eigenvalues` allows for the columns and their inverse
+pub eigenvalues-allowed : (x : List Float) (n k : ℕ) (run room : List Float) (r : Spectrum) (after held : List Float)
+    → outcomes.Kept x (inverseOf x n k) n k run room r after held → take (figuresOf x n k .kept) after ≡ figuresOf x n k .eigenvalues
+eigenvalues-allowed x n k run room r after held f =
+    let f' = figuresOf x n k in
+    ap (take (f' .kept)) (f .1) ∙ take-at (f' .eigenvalues) (drop (length (f' .eigenvalues)) run) (f' .kept) (sym (figures-counted x n k))
 
 -- ---- one call
 module _ (s : Sheet) where
