@@ -1,12 +1,13 @@
 -- What a layout's figures may show: specs/Figures.antt's laws. One idea: an accepted exact call is past every check, so its result is `exactPath` of the columns, how many
 -- rows they have, and the statistic (`exact-is`); and that path takes kept count and sweeps from the spectrum, into which no statistic comes. Assumes nothing.
 use mathlib.Core.Path.{_≡_, refl, sym, ap, _∙_, subst}
+use mathlib.Core.Logic.{_⊎_, inl, inr}
 use mathlib.Core.Bool.{Bool, true, false, not, _&&_, cond, true≢false, and-true}
 use Prim.Native.Nat.{ℕ, _*_, _<_}
 use native.Mathlib.Nat.{eq-of-mul-eq-mul-right, mul-comm}
 use mathlib.Core.List.{List, [], _∷_}
 use borrow.Author.Tests.{eqb-false}
-use lib.Dec.{ltb}
+use lib.Dec.{ltb, eqb}
 use lib.ListN.{length, take, drop}
 use lib.Seq.{take-at}
 use lib.Ieee.{Float, binary64, toBits, ofBits}
@@ -44,11 +45,11 @@ use Rattle.dwtest.specs.declared.Outcome.{Outcome}
 use Rattle.dwtest.specs.declared.Choice.{Choice}
 use Rattle.dwtest.specs.declared.paths.Leaving.{Leaving}
 use Rattle.dwtest.proofs.SheetLaws.{Sized, sized-of}
-use Rattle.theorems.specs.Document.{exactDue, integralEnded}
+use Rattle.theorems.specs.Document.{exactDue, fellBack, integralEnded}
 use Rattle.theorems.specs.Sheets.{Sheet, resultOf}
-use Rattle.theorems.specs.Figures.{Figures, countIn, sweepsIn, figuresOf, figuresIn, passedOn, AcceptedExact, OneLayout, FiguresShown, SweepHalfTold, FiguresCounted, SameRows, SameFigures, SameOnPathTwo, SameResult}
+use Rattle.theorems.specs.Figures.{Figures, countIn, sweepsIn, figuresOf, figuresIn, passedOn, AcceptedExact, OneLayout, ExactTold, FiguresShown, SweepHalfTold, FiguresCounted, SameRows, SameFigures, SameOnPathTwo, SameResult}
 use Rattle.theorems.proofs.Order.{value-is, as-document}
-use Rattle.theorems.proofs.Accepted.{every, statistic-is, settled-when}
+use Rattle.theorems.proofs.Accepted.{Shown, every, statistic-is, settled-when}
 use Rattle.theorems.proofs.One.{Promised}
 use Rattle.theorems.proofs.One as outcomes
 
@@ -218,19 +219,45 @@ module _ (s : Sheet) where
         sym (ofBits-toBits binary64 (durbinWatson e) (div-fits binary64 (differences e) (squares e)))
         ∙ ap (λ (d : Float). ofBits binary64 (toBits binary64 d)) (sym (statistic-is e x k (s .alternative) (s .choice) (s .matrixRoom) (s .partRoom) (h .accepted)))
 
-  -- one that path 2 answered is accepted and exact
-  path-two : resultOf s .path ≡ 2 → AcceptedExact s
-  path-two q = let g = go q in record { accepted = g .0; due = g .1 }
+  -- ---- which calls these are
+  abbrev due? : Bool
+  due? = exactDue e x k (s .choice) (s .matrixRoom) (s .partRoom)
+
+  abbrev Told : Outcome → Type 0
+  Told o = (o .path ≡ 2) ⊎ (o .fallback ≡ true)
+
+  told-of : AcceptedExact s → Told (resultOf s)
+  told-of h = every e x k (s .alternative) (s .choice) (s .matrixRoom) (s .partRoom) (λ o. passes (o .refusal) ≡ true → Told o) (record {
+    refused = λ r u q. absurd (true≢false (sym q ∙ u));
+    short = λ u q. absurd (true≢false (sym u ∙ enough (ltb rows 3) (wantsExact (s .choice) rows) (h .due) .0));
+    early = λ left u q. inr (u .0 ∙ sym (u .1) ∙ h .due);
+    normal = λ left law u l q. inr (u .0 ∙ sym (u .1) ∙ h .due);
+    exact = λ n v u t g w q. inl refl;
+  }) (h .accepted)
+
+  of-told : Told (resultOf s) → AcceptedExact s
+  of-told t = let g = every e x k (s .alternative) (s .choice) (s .matrixRoom) (s .partRoom) (λ o. Told o → (passes (o .refusal) ≡ true) × (due? ≡ true)) shown t in record { accepted = g .0; due = g .1 }
     where
-      go : resultOf s .path ≡ 2 → (passes (resultOf s .refusal) ≡ true) × (exactDue e x k (s .choice) (s .matrixRoom) (s .partRoom) ≡ true)
-      go = every e x k (s .alternative) (s .choice) (s .matrixRoom) (s .partRoom)
-          (λ o. o .path ≡ 2 → (passes (o .refusal) ≡ true) × (exactDue e x k (s .choice) (s .matrixRoom) (s .partRoom) ≡ true)) (record {
-            refused = λ r h q. absurd (eqb-false 0 2 refl q);
-            short = λ h q. absurd (eqb-false 1 2 refl q);
-            early = λ left h q. absurd (eqb-false 4 2 refl q);
-            normal = λ left law h l q. absurd (eqb-false 3 2 refl q);
-            exact = λ n v u h t w q. (refl, u);
-          })
+      neither : {A : Type 0} (i : ℕ) → eqb i 2 ≡ false → (i ≡ 2) ⊎ (false ≡ true) → A
+      neither i apart (inl q) = absurd (eqb-false i 2 apart q)
+      neither i apart (inr q) = absurd (true≢false (sym q))
+
+      back : (left : Leaving) (i : ℕ) → eqb i 2 ≡ false → (left .fallback ≡ fellBack e x k (s .choice) (s .matrixRoom) (s .partRoom)) → due? ≡ fellBack e x k (s .choice) (s .matrixRoom) (s .partRoom)
+          → (i ≡ 2) ⊎ (left .fallback ≡ true) → due? ≡ true
+      back left i apart f u (inl q) = absurd (eqb-false i 2 apart q)
+      back left i apart f u (inr q) = u ∙ sym f ∙ q
+
+      shown : Shown e x k (s .alternative) (s .choice) (s .matrixRoom) (s .partRoom) (λ o. Told o → (passes (o .refusal) ≡ true) × (due? ≡ true))
+      shown = record {
+        refused = λ r h. neither 0 refl;
+        short = λ h. neither 1 refl;
+        early = λ left h q. (refl, back left 4 refl (h .0) (h .1) q);
+        normal = λ left law h l q. (refl, back left 3 refl (h .0) (h .1) q);
+        exact = λ n v u h t w q. (refl, u);
+      }
+
+pub exact-told : ExactTold
+exact-told s = (told-of s, of-told s)
 
 pub figures-shown : FiguresShown
 figures-shown s h = (figures-are s h, both-halves s h)
@@ -263,7 +290,7 @@ same-result s s' layout h h' bits =
 
 -- the narrower reading of exact
 pub same-on-path-two : SameOnPathTwo
-same-on-path-two s s' layout q q' = same-figures s s' layout (path-two s q) (path-two s' q')
+same-on-path-two s s' layout q q' = same-figures s s' layout (of-told s (inl q)) (of-told s' (inl q'))
 
 -- ---- whatever results the promise of `durbin_watson_test` allows for two calls
 abbrev asked : List Float → List Float → ℕ → Alternative → Choice → List Float → List Float → Sheet

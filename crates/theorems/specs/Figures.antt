@@ -3,6 +3,7 @@
 -- same however their residuals differ. proofs/Figures.antt proves them. Nothing is said of time, and nothing of refused calls. Definitions only. Assumes nothing.
 use Prim.Native.Nat.{ℕ, _<_}
 use mathlib.Core.Path.{_≡_}
+use mathlib.Core.Logic.{_⊎_}
 use mathlib.Core.Bool.{Bool, true, not, _&&_}
 use mathlib.Core.List.{List}
 use lib.ListN.{length}
@@ -71,6 +72,13 @@ pub record OneLayout (s s' : Sheet) : Type 0 where
   pub partRoom : s .partRoom ≡ s' .partRoom
 
 -- ---- the laws
+-- A LINE TELLS which calls these are: path 2 answered, or it fell back
+abbrev pub ExactTold : Type 0
+ExactTold =
+    (s : Sheet)
+    → (AcceptedExact s → (resultOf s .path ≡ 2) ⊎ (resultOf s .fallback ≡ true))
+    × ((resultOf s .path ≡ 2) ⊎ (resultOf s .fallback ≡ true) → AcceptedExact s)
+
 -- THE FIGURES of a call are those of its layout, and settled is their sweep half and that the integral ended, where one was needed
 abbrev pub FiguresShown : Type 0
 FiguresShown =
