@@ -45,7 +45,7 @@ use Rattle.dwtest.specs.declared.Outcome.{Outcome}
 use Rattle.dwtest.specs.declared.Choice.{Choice}
 use Rattle.dwtest.specs.declared.paths.Leaving.{Leaving}
 use Rattle.dwtest.proofs.SheetLaws.{Sized, sized-of}
-use Rattle.theorems.specs.Document.{exactDue, fellBack, integralEnded}
+use Rattle.theorems.specs.Document.{exactDue, integralEnded}
 use Rattle.theorems.specs.Sheets.{Sheet, resultOf}
 use Rattle.theorems.specs.Figures.{Figures, countIn, sweepsIn, figuresOf, figuresIn, passedOn, AcceptedExact, OneLayout, ExactTold, FiguresShown, SweepHalfTold, FiguresCounted, SameRows, SameFigures, SameOnPathTwo, SameResult}
 use Rattle.theorems.proofs.Order.{value-is, as-document}
@@ -183,6 +183,10 @@ module _ (s : Sheet) where
   abbrev k : ℕ
   k = s .count
 
+  -- whatever is shown of each kind of outcome holds of this one
+  holds : (P : Outcome → Type 0) → Shown e x k (s .alternative) (s .choice) (s .matrixRoom) (s .partRoom) P → P (resultOf s)
+  holds = every e x k (s .alternative) (s .choice) (s .matrixRoom) (s .partRoom)
+
   module _ (h : AcceptedExact s) where
     layout-sized : Sized x rows k
     layout-sized = sized e x k (s .alternative) (s .choice) (s .matrixRoom) (s .partRoom) (h .accepted) (h .due)
@@ -204,7 +208,7 @@ module _ (s : Sheet) where
 
     -- no integral of fewer than 2,000 bisections runs out
     half-alone : resultOf s .work .bisections < 2000 → resultOf s .settled ≡ figuresOf x rows k .settledSweeps
-    half-alone few = every e x k (s .alternative) (s .choice) (s .matrixRoom) (s .partRoom)
+    half-alone few = holds
         (λ o. passes (o .refusal) ≡ true → o .work .bisections < 2000 → o .settled ≡ figuresOf x rows k .settledSweeps) (record {
           refused = λ r u q b. absurd (true≢false (sym q ∙ u));
           short = λ u q b. absurd (true≢false (sym u ∙ enough (ltb rows 3) (wantsExact (s .choice) rows) (h .due) .0));
@@ -219,15 +223,12 @@ module _ (s : Sheet) where
         sym (ofBits-toBits binary64 (durbinWatson e) (div-fits binary64 (differences e) (squares e)))
         ∙ ap (λ (d : Float). ofBits binary64 (toBits binary64 d)) (sym (statistic-is e x k (s .alternative) (s .choice) (s .matrixRoom) (s .partRoom) (h .accepted)))
 
-  -- ---- which calls these are
-  abbrev due? : Bool
-  due? = exactDue e x k (s .choice) (s .matrixRoom) (s .partRoom)
-
+  -- which calls these are
   abbrev Told : Outcome → Type 0
   Told o = (o .path ≡ 2) ⊎ (o .fallback ≡ true)
 
   told-of : AcceptedExact s → Told (resultOf s)
-  told-of h = every e x k (s .alternative) (s .choice) (s .matrixRoom) (s .partRoom) (λ o. passes (o .refusal) ≡ true → Told o) (record {
+  told-of h = holds (λ o. passes (o .refusal) ≡ true → Told o) (record {
     refused = λ r u q. absurd (true≢false (sym q ∙ u));
     short = λ u q. absurd (true≢false (sym u ∙ enough (ltb rows 3) (wantsExact (s .choice) rows) (h .due) .0));
     early = λ left u q. inr (u .0 ∙ sym (u .1) ∙ h .due);
@@ -236,24 +237,20 @@ module _ (s : Sheet) where
   }) (h .accepted)
 
   of-told : Told (resultOf s) → AcceptedExact s
-  of-told t = let g = every e x k (s .alternative) (s .choice) (s .matrixRoom) (s .partRoom) (λ o. Told o → (passes (o .refusal) ≡ true) × (due? ≡ true)) shown t in record { accepted = g .0; due = g .1 }
+  of-told t = let g = holds (λ o. Told o → (passes (o .refusal) ≡ true) × (exactDue e x k (s .choice) (s .matrixRoom) (s .partRoom) ≡ true)) cases t in record { accepted = g .0; due = g .1 }
     where
-      neither : {A : Type 0} (i : ℕ) → eqb i 2 ≡ false → (i ≡ 2) ⊎ (false ≡ true) → A
-      neither i apart (inl q) = absurd (eqb-false i 2 apart q)
-      neither i apart (inr q) = absurd (true≢false (sym q))
+      back : (path : ℕ) (fallback : Bool) → eqb path 2 ≡ false → (path ≡ 2) ⊎ (fallback ≡ true) → fallback ≡ true
+      back path fallback other (inl q) = absurd (eqb-false path 2 other q)
+      back path fallback other (inr q) = q
 
-      back : (left : Leaving) (i : ℕ) → eqb i 2 ≡ false → (left .fallback ≡ fellBack e x k (s .choice) (s .matrixRoom) (s .partRoom)) → due? ≡ fellBack e x k (s .choice) (s .matrixRoom) (s .partRoom)
-          → (i ≡ 2) ⊎ (left .fallback ≡ true) → due? ≡ true
-      back left i apart f u (inl q) = absurd (eqb-false i 2 apart q)
-      back left i apart f u (inr q) = u ∙ sym f ∙ q
-
-      shown : Shown e x k (s .alternative) (s .choice) (s .matrixRoom) (s .partRoom) (λ o. Told o → (passes (o .refusal) ≡ true) × (due? ≡ true))
-      shown = record {
-        refused = λ r h. neither 0 refl;
-        short = λ h. neither 1 refl;
-        early = λ left h q. (refl, back left 4 refl (h .0) (h .1) q);
-        normal = λ left law h l q. (refl, back left 3 refl (h .0) (h .1) q);
-        exact = λ n v u h t w q. (refl, u);
+      cases : Shown e x k (s .alternative) (s .choice) (s .matrixRoom) (s .partRoom)
+          (λ o. Told o → (passes (o .refusal) ≡ true) × (exactDue e x k (s .choice) (s .matrixRoom) (s .partRoom) ≡ true))
+      cases = record {
+        refused = λ r u q. absurd (true≢false (sym (back 0 false refl q)));
+        short = λ u q. absurd (true≢false (sym (back 1 false refl q)));
+        early = λ left u q. (refl, u .1 ∙ sym (u .0) ∙ back 4 (left .fallback) refl q);
+        normal = λ left law u l q. (refl, u .1 ∙ sym (u .0) ∙ back 3 (left .fallback) refl q);
+        exact = λ n v u t g w q. (refl, u);
       }
 
 pub exact-told : ExactTold
