@@ -28,8 +28,8 @@ use Rattle.imhof.specs.Imhof.{clampOf, imhofOf}
 use Rattle.dwtest.specs.Paths.{exactPath}
 use Rattle.dwtest.specs.Test.{testWith}
 use Rattle.dwtest.specs.declared.Choice.the-variants.{Exact}
-use Rattle.theorems.specs.Sheets.{Sheet, sheet, resultOf, minusOne}
-use Rattle.theorems.specs.Figures.{Figures, passedOn, AcceptedExact}
+use Rattle.theorems.specs.Sheets.{Sheet, sheet, outcomeOf, minusOne}
+use Rattle.theorems.specs.Figures.{Figures, passedOn, AcceptedExact, OneLayout}
 
 -- residuals on a column 0, 1, 0, asked exactly, with room enough
 abbrev face : List Float → Sheet
@@ -46,9 +46,9 @@ smooth = face (one ∷ one ∷ plusZero ∷ [])
 abbrev figures : Figures
 figures = record { eigenvalues = one ∷ one ∷ []; kept = 2; sweeps = 0; settledSweeps = true }
 
--- both are calls that the laws speak of; their figures are the same, and p is 1 for the first and 0 for the second
-pub others-differ : AcceptedExact rough × AcceptedExact smooth
+-- both are calls that the laws speak of, of one layout; their figures are the same, and p is 1 for the first and 0 for the second
+pub others-differ : OneLayout rough smooth × AcceptedExact rough × AcceptedExact smooth
     × (passedOn rough ≡ figures) × (passedOn smooth ≡ figures)
-    × (resultOf rough .p ≡ one) × (resultOf smooth .p ≡ plusZero)
+    × (outcomeOf rough .p ≡ one) × (outcomeOf smooth .p ≡ plusZero)
 unfolding testWith exactPath durbinWatsonAnswer firstBad pivotsOf failsAt factorOf leftTo lowerInverse inverseFrom matrix row table every turns sumOf sub mul div le isNan sqrtOf ofBits minus absOf weight hat residual product columnOf reflected settled qlOf stuckOf negligible blockEnd keptOf bandsWorked deliveredOf deliveredNumbers spectrumOf keptNumbers weightsOf weights.every clampOf imhofOf
-others-differ = (record { accepted = refl; due = refl }, record { accepted = refl; due = refl }, refl, refl, refl, refl)
+others-differ = (record { columns = refl; count = refl; alternative = refl; choice = refl; matrixRoom = refl; partRoom = refl }, record { accepted = refl; due = refl }, record { accepted = refl; due = refl }, refl, refl, refl, refl)

@@ -31,6 +31,7 @@ use Rattle.eigen.specs.Spectrum.{bandsStuck, workedOf, numbersOf, keptBy, keptF
 use Rattle.eigen.specs.declared.Numbers.{Numbers}
 use Rattle.eigen.specs.declared.Spectrum.{Spectrum}
 use Rattle.eigen.specs.declared.Spectrum.the-variants.{MatrixNotFinite, NumberNotFinite, Kept}
+use Rattle.eigen.proofs.SpectrumLaws.{kept-told}
 use Rattle.imhof.specs.Imhof.{imhofOf}
 use Rattle.imhof.specs.declared.Estimate.{Estimate}
 use Rattle.imhof.specs.declared.Exact.{Exact}
@@ -46,8 +47,8 @@ use Rattle.dwtest.specs.declared.Choice.{Choice}
 use Rattle.dwtest.specs.declared.paths.Leaving.{Leaving}
 use Rattle.dwtest.proofs.SheetLaws.{Sized, sized-of}
 use Rattle.theorems.specs.Document.{exactDue, integralEnded}
-use Rattle.theorems.specs.Sheets.{Sheet, resultOf}
-use Rattle.theorems.specs.Figures.{Figures, countIn, sweepsIn, figuresOf, figuresIn, passedOn, AcceptedExact, OneLayout, ExactTold, FiguresShown, SweepHalfTold, FiguresCounted, SameRows, SameFigures, SameOnPathTwo, SameResult}
+use Rattle.theorems.specs.Sheets.{Sheet, outcomeOf}
+use Rattle.theorems.specs.Figures.{Figures, countIn, sweepsIn, figuresOf, figuresIn, passedOn, AcceptedExact, OneLayout, ExactTold, FiguresShown, SweepHalfTold, FiguresCounted, SameRows, SameFigures, SameMark, SameResult, SameOnPathTwo}
 use Rattle.theorems.proofs.Order.{value-is, as-document}
 use Rattle.theorems.proofs.Accepted.{Shown, every, statistic-is, settled-when}
 use Rattle.theorems.proofs.One.{Promised}
@@ -70,7 +71,7 @@ first-passes r rest passed = go (passes r) refl passed
     go true h q = (h, q)
     go false h q = absurd (true≢false (sym q ∙ h))
 
--- three rows or more, and exact
+-- what the exact path asks: not too few rows, and that it is wanted
 enough : (few wanted : Bool) → (not few && wanted) ≡ true → (few ≡ false) × (wanted ≡ true)
 enough true wanted h = absurd (true≢false (sym h))
 enough false wanted h = (refl, h)
@@ -90,23 +91,23 @@ module _ (e x : List Float) (k : ℕ) (a : Alternative) (c : Choice) (m p : ℕ)
   sized : Sized x n k
   sized = sized-of x n k (first-passes (columnsRefusal (columnsOf x n k)) _ (runs .0) .0)
 
-  told : d ≡ durbinWatson e
-  told = value-is e x k a c m p (first-passes (statisticRefusal (durbinWatsonAnswer e)) _ (first-passes (columnsRefusal (columnsOf x n k)) _ (runs .0) .1) .0)
+  value-told : d ≡ durbinWatson e
+  value-told = value-is e x k a c m p (first-passes (statisticRefusal (durbinWatsonAnswer e)) _ (first-passes (columnsRefusal (columnsOf x n k)) _ (runs .0) .1) .0)
 
   -- past 11 and stage 1 of 13
   design : testOf e x k a c m p ≡ answerOf roomOf x n k d a c m p
   unfolding designOf
   design = runs .1 ∙ past (designChecks x n k) (answerOf roomOf x n k d a c m p) (subst (λ o. passes (o .refusal) ≡ true) (runs .1) accepted) .1
 
-  -- past 12
+  -- three rows or more, and exact
   room : testOf e x k a c m p ≡ exactOf roomOf x n k d a c m p
   room = let rows = enough (ltb n 3) (wantsExact c n) due in design ∙ rw (rows .0, rows .1) refl
 
-  -- THE EXACT PATH: of the residuals, how many there are and their statistic come in, and nothing else
+  -- THE EXACT PATH, past 12: of the residuals, how many there are and their statistic come in, and nothing else
   pub exact-is : testOf e x k a c m p ≡ exactPath x n k (inverseOf x n k) (durbinWatson e) a
   exact-is =
       room ∙ past (roomRefusal (roomOf n) m p ∷ []) (exactPath x n k (inverseOf x n k) d a) (subst (λ o. passes (o .refusal) ≡ true) room accepted) .1
-      ∙ ap (λ v. exactPath x n k (inverseOf x n k) v a) told
+      ∙ ap (λ v. exactPath x n k (inverseOf x n k) v a) value-told
 
 -- ---- kept count and sweeps
 module _ (x : List Float) (n k : ℕ) (inverse : Matrix) (d : Float) (a : Alternative) where
@@ -162,12 +163,16 @@ figures-counted x n k = go (firstBad (mamOf x (inverseOf x n k) n k))
     go (At t) = refl
     go Nothing = delivered-counted n k (mamOf x (inverseOf x n k) n k)
 
--- and they are what any run begins with that the promise of `ma_eigenvalues` allows for the columns and their inverse
-pub eigenvalues-allowed : (x : List Float) (n k : ℕ) (run room : List Float) (r : Spectrum) (after held : List Float)
-    → outcomes.Kept x (inverseOf x n k) n k run room r after held → take (figuresOf x n k .kept) after ≡ figuresOf x n k .eigenvalues
-eigenvalues-allowed x n k run room r after held f =
-    let f' = figuresOf x n k in
-    ap (take (f' .kept)) (f .1) ∙ take-at (f' .eigenvalues) (drop (length (f' .eigenvalues)) run) (f' .kept) (sym (figures-counted x n k))
+-- all four are what any answer and run have that the promise of `ma_eigenvalues`, which takes no residual, allows for the columns and their inverse
+pub figures-made : (x : List Float) (n k : ℕ) (run room : List Float) (s : Numbers) (after held : List Float) → outcomes.Kept x (inverseOf x n k) n k run room (Kept s) after held
+    → record { eigenvalues = take (s .count) after; kept = s .count; sweeps = s .work .sweeps; settledSweeps = not (s .stuck) } ≡ figuresOf x n k
+unfolding bandsStuck
+figures-made x n k run room s after held f =
+    let is : spectrumOf x (inverseOf x n k) n k ≡ Kept s = sym (f .0) in
+    let known = kept-told x (inverseOf x n k) n k s is in
+    let numbers = keptNumbers x (inverseOf x n k) n k in
+    let front : take (s .count) after ≡ numbers = ap (take (s .count)) (f .1) ∙ take-at numbers (drop (length numbers) run) (s .count) (sym (known .0)) in
+    rw (front, known .1, is) refl
 
 -- ---- one call
 module _ (s : Sheet) where
@@ -184,14 +189,14 @@ module _ (s : Sheet) where
   k = s .count
 
   -- whatever is shown of each kind of outcome holds of this one
-  holds : (P : Outcome → Type 0) → Shown e x k (s .alternative) (s .choice) (s .matrixRoom) (s .partRoom) P → P (resultOf s)
+  holds : (P : Outcome → Type 0) → Shown e x k (s .alternative) (s .choice) (s .matrixRoom) (s .partRoom) P → P (outcomeOf s)
   holds = every e x k (s .alternative) (s .choice) (s .matrixRoom) (s .partRoom)
 
   module _ (h : AcceptedExact s) where
     layout-sized : Sized x rows k
     layout-sized = sized e x k (s .alternative) (s .choice) (s .matrixRoom) (s .partRoom) (h .accepted) (h .due)
 
-    by-exact-path : resultOf s ≡ exactPath x rows k (inverseOf x rows k) (durbinWatson e) (s .alternative)
+    by-exact-path : outcomeOf s ≡ exactPath x rows k (inverseOf x rows k) (durbinWatson e) (s .alternative)
     by-exact-path = exact-is e x k (s .alternative) (s .choice) (s .matrixRoom) (s .partRoom) (h .accepted) (h .due)
 
     figures-are : passedOn s ≡ figuresOf x rows k
@@ -201,13 +206,13 @@ module _ (s : Sheet) where
         ∙ exact-shows x rows k (inverseOf x rows k) (durbinWatson e) (s .alternative) (f .eigenvalues) (f .settledSweeps) (subst (λ (o : Outcome). passes (o .refusal) ≡ true) by-exact-path (h .accepted))
 
     -- nothing is refused, and the exact path is due: settled is both halves
-    both-halves : resultOf s .settled ≡ (figuresOf x rows k .settledSweeps && integralEnded e x k (s .choice) (s .matrixRoom) (s .partRoom))
+    both-halves : outcomeOf s .settled ≡ (figuresOf x rows k .settledSweeps && integralEnded e x k (s .choice) (s .matrixRoom) (s .partRoom))
     both-halves =
         settled-when e x k (s .alternative) (s .choice) (s .matrixRoom) (s .partRoom)
         ∙ rw (← as-document e x k (s .alternative) (s .choice) (s .matrixRoom) (s .partRoom), h .accepted, h .due) refl
 
     -- no integral of fewer than 2,000 bisections runs out
-    half-alone : resultOf s .work .bisections < 2000 → resultOf s .settled ≡ figuresOf x rows k .settledSweeps
+    half-alone : outcomeOf s .work .bisections < 2000 → outcomeOf s .settled ≡ figuresOf x rows k .settledSweeps
     half-alone few = holds
         (λ o. passes (o .refusal) ≡ true → o .work .bisections < 2000 → o .settled ≡ figuresOf x rows k .settledSweeps) (record {
           refused = λ r u q b. absurd (true≢false (sym q ∙ u));
@@ -218,7 +223,7 @@ module _ (s : Sheet) where
         }) (h .accepted) few
 
     -- the statistic is a quotient, and a quotient is the value of its bits
-    by-bits : durbinWatson e ≡ ofBits binary64 (toBits binary64 (resultOf s .statistic))
+    by-bits : durbinWatson e ≡ ofBits binary64 (toBits binary64 (outcomeOf s .statistic))
     by-bits =
         sym (ofBits-toBits binary64 (durbinWatson e) (div-fits binary64 (differences e) (squares e)))
         ∙ ap (λ (d : Float). ofBits binary64 (toBits binary64 d)) (sym (statistic-is e x k (s .alternative) (s .choice) (s .matrixRoom) (s .partRoom) (h .accepted)))
@@ -227,7 +232,7 @@ module _ (s : Sheet) where
   abbrev Told : Outcome → Type 0
   Told o = (o .path ≡ 2) ⊎ (o .fallback ≡ true)
 
-  told-of : AcceptedExact s → Told (resultOf s)
+  told-of : AcceptedExact s → Told (outcomeOf s)
   told-of h = holds (λ o. passes (o .refusal) ≡ true → Told o) (record {
     refused = λ r u q. absurd (true≢false (sym q ∙ u));
     short = λ u q. absurd (true≢false (sym u ∙ enough (ltb rows 3) (wantsExact (s .choice) rows) (h .due) .0));
@@ -236,7 +241,7 @@ module _ (s : Sheet) where
     exact = λ n v u t g w q. inl refl;
   }) (h .accepted)
 
-  of-told : Told (resultOf s) → AcceptedExact s
+  of-told : Told (outcomeOf s) → AcceptedExact s
   of-told t = let g = holds (λ o. Told o → (passes (o .refusal) ≡ true) × (exactDue e x k (s .choice) (s .matrixRoom) (s .partRoom) ≡ true)) cases t in record { accepted = g .0; due = g .1 }
     where
       back : (path : ℕ) (fallback : Bool) → eqb path 2 ≡ false → (path ≡ 2) ⊎ (fallback ≡ true) → fallback ≡ true
@@ -285,9 +290,14 @@ same-result s s' layout h h' bits =
     let d : durbinWatson (s .residuals) ≡ durbinWatson (s' .residuals) = by-bits s h ∙ ap (ofBits binary64) bits ∙ sym (by-bits s' h') in
     by-exact-path s h ∙ rw (d, layout .columns, same-rows s s' layout h h', layout .count, layout .alternative) refl ∙ sym (by-exact-path s' h')
 
+pub same-mark : SameMark
+same-mark s s' layout h h' few few' =
+    half-alone s h few ∙ sym (ap (λ (f : Figures). f .settledSweeps) (figures-are s h)) ∙ ap (λ (f : Figures). f .settledSweeps) (same-figures s s' layout h h')
+    ∙ ap (λ (f : Figures). f .settledSweeps) (figures-are s' h') ∙ sym (half-alone s' h' few')
+
 -- the narrower reading of exact
 pub same-on-path-two : SameOnPathTwo
-same-on-path-two s s' layout q q' = same-figures s s' layout (of-told s (inl q)) (of-told s' (inl q'))
+same-on-path-two s s' layout q q' = let h = of-told s (inl q) in let h' = of-told s' (inl q') in (same-figures s s' layout h h', same-result s s' layout h h')
 
 -- ---- whatever results the promise of `durbin_watson_test` allows for two calls
 abbrev asked : List Float → List Float → ℕ → Alternative → Choice → List Float → List Float → Sheet
@@ -297,10 +307,11 @@ pub figures-allowed : (e e' x : List Float) (k : ℕ) (a : Alternative) (c : Cho
     → length matrix ≡ length matrix' → length parts ≡ length parts'
     → AcceptedExact (asked e x k a c matrix parts) → AcceptedExact (asked e' x k a c matrix' parts')
     → (r r' : Outcome) (m m' p p' : List Float) → Promised e x k a c matrix parts r m p → Promised e' x k a c matrix' parts' r' m' p'
-    → (r .kept ≡ r' .kept) × (r .work .sweeps ≡ r' .work .sweeps) × (toBits binary64 (r .statistic) ≡ toBits binary64 (r' .statistic) → r ≡ r')
+    → (r .kept ≡ r' .kept) × (r .work .sweeps ≡ r' .work .sweeps) × (r .work .bisections < 2000 → r' .work .bisections < 2000 → r .settled ≡ r' .settled)
+    × (toBits binary64 (r .statistic) ≡ toBits binary64 (r' .statistic) → r ≡ r')
 figures-allowed e e' x k a c matrix matrix' parts parts' same-matrix same-parts h h' r r' m m' p p' f f' =
     let s = asked e x k a c matrix parts in
     let s' = asked e' x k a c matrix' parts' in
     let layout : OneLayout s s' = record { columns = refl; count = refl; alternative = refl; choice = refl; matrixRoom = same-matrix; partRoom = same-parts } in
     let g = same-figures s s' layout h h' in
-    rw (f .0, f' .0) (ap (λ (g : Figures). g .kept) g, ap (λ (g : Figures). g .sweeps) g, same-result s s' layout h h')
+    rw (f .0, f' .0) (ap (λ (g : Figures). g .kept) g, ap (λ (g : Figures). g .sweeps) g, same-mark s s' layout h h', same-result s s' layout h h')

@@ -16,7 +16,7 @@ use Rattle.eigen.specs.declared.Spectrum.the-variants.{MatrixNotFinite, NumberN
 use Rattle.dwtest.specs.Refusals.{passes}
 use Rattle.dwtest.specs.declared.Outcome.{Outcome}
 use Rattle.theorems.specs.Document.{leftCoupled, keptOf, exactDue, couplingWasLeft, integralEnded}
-use Rattle.theorems.specs.Sheets.{Sheet, resultOf}
+use Rattle.theorems.specs.Sheets.{Sheet, outcomeOf}
 
 -- what is passed on: the kept eigenvalues, falling; how many; the sweeps; and the sweep half of settled, that no index of the QL step had a coupling left after its turn
 pub record Figures : Type 0 where
@@ -55,11 +55,11 @@ figuresIn eigenvalues ended o = record { eigenvalues = eigenvalues; kept = o .ke
 abbrev pub passedOn : Sheet → Figures
 passedOn s =
     figuresIn (keptOf (s .residuals) (s .columns) (s .count) (s .choice) (s .matrixRoom) (s .partRoom))
-    (not (couplingWasLeft (s .residuals) (s .columns) (s .count) (s .choice) (s .matrixRoom) (s .partRoom))) (resultOf s)
+    (not (couplingWasLeft (s .residuals) (s .columns) (s .count) (s .choice) (s .matrixRoom) (s .partRoom))) (outcomeOf s)
 
--- the call is accepted, exact (chosen, or due by default) and of three rows or more; one that fell back to the normal law was exact too
+-- the call is accepted, exact (chosen, or due by default) and of three rows or more; one that fell back to path 3 or 4 was exact too
 pub record AcceptedExact (s : Sheet) : Type 0 where
-  pub accepted : passes (resultOf s .refusal) ≡ true
+  pub accepted : passes (outcomeOf s .refusal) ≡ true
   pub due : exactDue (s .residuals) (s .columns) (s .count) (s .choice) (s .matrixRoom) (s .partRoom) ≡ true
 
 -- two calls with the same columns, alternative, choice and room lengths: the residuals may differ
@@ -76,26 +76,26 @@ pub record OneLayout (s s' : Sheet) : Type 0 where
 abbrev pub ExactTold : Type 0
 ExactTold =
     (s : Sheet)
-    → (AcceptedExact s → (resultOf s .path ≡ 2) ⊎ (resultOf s .fallback ≡ true))
-    × ((resultOf s .path ≡ 2) ⊎ (resultOf s .fallback ≡ true) → AcceptedExact s)
+    → (AcceptedExact s → (outcomeOf s .path ≡ 2) ⊎ (outcomeOf s .fallback ≡ true))
+    × ((outcomeOf s .path ≡ 2) ⊎ (outcomeOf s .fallback ≡ true) → AcceptedExact s)
 
 -- THE FIGURES of a call are those of its layout, and settled is their sweep half and that the integral ended, where one was needed
 abbrev pub FiguresShown : Type 0
 FiguresShown =
     (s : Sheet) → AcceptedExact s
     → (passedOn s ≡ figuresOf (s .columns) (length (s .residuals)) (s .count))
-    × (resultOf s .settled ≡ (figuresOf (s .columns) (length (s .residuals)) (s .count) .settledSweeps && integralEnded (s .residuals) (s .columns) (s .count) (s .choice) (s .matrixRoom) (s .partRoom)))
+    × (outcomeOf s .settled ≡ (figuresOf (s .columns) (length (s .residuals)) (s .count) .settledSweeps && integralEnded (s .residuals) (s .columns) (s .count) (s .choice) (s .matrixRoom) (s .partRoom)))
 
 -- with fewer than 2,000 bisections settled is the sweep half by itself, so that a line tells it
 abbrev pub SweepHalfTold : Type 0
 SweepHalfTold =
-    (s : Sheet) → AcceptedExact s → resultOf s .work .bisections < 2000 → resultOf s .settled ≡ figuresOf (s .columns) (length (s .residuals)) (s .count) .settledSweeps
+    (s : Sheet) → AcceptedExact s → outcomeOf s .work .bisections < 2000 → outcomeOf s .settled ≡ figuresOf (s .columns) (length (s .residuals)) (s .count) .settledSweeps
 
 -- the eigenvalues are the ones that are counted
 abbrev pub FiguresCounted : Type 0
 FiguresCounted = (x : List Float) (n k : ℕ) → figuresOf x n k .kept ≡ length (figuresOf x n k .eigenvalues)
 
--- TWO CALLS of one layout have as many rows: those of the columns
+-- TWO CALLS of one layout have the same number of rows
 abbrev pub SameRows : Type 0
 SameRows = (s s' : Sheet) → OneLayout s s' → AcceptedExact s → AcceptedExact s' → length (s .residuals) ≡ length (s' .residuals)
 
@@ -103,12 +103,20 @@ SameRows = (s s' : Sheet) → OneLayout s s' → AcceptedExact s → AcceptedExa
 abbrev pub SameFigures : Type 0
 SameFigures = (s s' : Sheet) → OneLayout s s' → AcceptedExact s → AcceptedExact s' → passedOn s ≡ passedOn s'
 
--- in particular where path 2 answered both
-abbrev pub SameOnPathTwo : Type 0
-SameOnPathTwo = (s s' : Sheet) → OneLayout s s' → resultOf s .path ≡ 2 → resultOf s' .path ≡ 2 → passedOn s ≡ passedOn s'
+-- settled is the same too with fewer than 2,000 bisections each
+abbrev pub SameMark : Type 0
+SameMark =
+    (s s' : Sheet) → OneLayout s s' → AcceptedExact s → AcceptedExact s' → outcomeOf s .work .bisections < 2000 → outcomeOf s' .work .bisections < 2000
+    → outcomeOf s .settled ≡ outcomeOf s' .settled
 
 -- and they have one result, every field, where their statistics are equal in bits
 abbrev pub SameResult : Type 0
 SameResult =
     (s s' : Sheet) → OneLayout s s' → AcceptedExact s → AcceptedExact s'
-    → toBits binary64 (resultOf s .statistic) ≡ toBits binary64 (resultOf s' .statistic) → resultOf s ≡ resultOf s'
+    → toBits binary64 (outcomeOf s .statistic) ≡ toBits binary64 (outcomeOf s' .statistic) → outcomeOf s ≡ outcomeOf s'
+
+-- both in particular where path 2 answered
+abbrev pub SameOnPathTwo : Type 0
+SameOnPathTwo =
+    (s s' : Sheet) → OneLayout s s' → outcomeOf s .path ≡ 2 → outcomeOf s' .path ≡ 2
+    → (passedOn s ≡ passedOn s') × (toBits binary64 (outcomeOf s .statistic) ≡ toBits binary64 (outcomeOf s' .statistic) → outcomeOf s ≡ outcomeOf s')

@@ -42,12 +42,12 @@ answered d p path = record { number = 0; place = 0; statistic = d; p = p; path =
 abbrev pub told : Outcome → Answer
 told o = record { number = o .refusal .number; place = o .refusal .place; statistic = o .statistic; p = o .p; path = o .path }
 
--- the test's result for a sheet, and what is told of it
-abbrev pub resultOf : Sheet → Outcome
-resultOf s = testOf (s .residuals) (s .columns) (s .count) (s .alternative) (s .choice) (s .matrixRoom) (s .partRoom)
+-- the test's outcome for a sheet, and what is told of it
+abbrev pub outcomeOf : Sheet → Outcome
+outcomeOf s = testOf (s .residuals) (s .columns) (s .count) (s .alternative) (s .choice) (s .matrixRoom) (s .partRoom)
 
 abbrev pub answerTo : Sheet → Answer
-answerTo s = told (resultOf s)
+answerTo s = told (outcomeOf s)
 
 -- -1, 1e200 and 2^-515
 abbrev pub minusOne : Float
