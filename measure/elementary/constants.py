@@ -4,12 +4,13 @@
 Usage: constants.py            prints the table
        constants.py --check    also holds every constant of crates/elementary/src and specs to it, and every decimal to the bits beside it
 
-Needs mpmath (Debian: python3-mpmath), which works with 200 bits here; a constant is the double nearest to what is said.
+Needs mpmath (Debian: python3-mpmath), which works with 200 bits here; a constant is the double nearest to what is said. The points of the table
+that atan and ln_1p share are read from src/points.rt, and what belongs to them is derived; table.py searches the points themselves, and holds the table
+to its order.
 """
 import glob
 import os
 import re
-import struct
 import sys
 
 try:
@@ -17,16 +18,12 @@ try:
 except ImportError:
     sys.exit("constants.py: no mpmath (Debian: python3-mpmath)")
 
+sys.dont_write_bytecode = True
+import table
+from table import bits, near_zero, of_bits
+
 mp.prec = 200
 ROOT = os.path.join(os.path.dirname(os.path.abspath(__file__)), "..", "..")
-
-
-def bits(x):
-    return struct.unpack("<Q", struct.pack("<d", x))[0]
-
-
-def of_bits(b):
-    return struct.unpack("<d", struct.pack("<Q", b))[0]
 
 
 def leading(value, count):
@@ -42,11 +39,6 @@ def in_parts(value, counts):
         parts.append(leading(value, count))
         value -= parts[-1]
     return parts + [value]
-
-
-def near_zero(f, limit):
-    """f, and its limit where its own formula divides by 0."""
-    return lambda z: limit if z < mpf(10) ** -40 else f(z)
 
 
 def exp_constants():
@@ -72,7 +64,6 @@ def ln_constants():
     coefficients, error = chebyfit(near_zero(fitted, mpf(2) / 3), [0, most**2], 7, error=True)
     for power, c in enumerate(reversed(coefficients)):
         yield c, "ln: L(z), Chebyshev's fit on [0, %s], z^%d, near 2/%d (the fit's error %s)" % (mp.nstr(most**2, 5), power, 2 * power + 3, mp.nstr(error, 2))
-    yield sqrt(2) - 1, "ln_1p: sqrt 2 - 1"
     least = mpf(float(sqrt(mpf(1) / 2)))
     yield least, "ln: sqrt(1/2), the least of the digits"
     yield least - 1, "ln_1p: the same less 1"
@@ -80,22 +71,27 @@ def ln_constants():
     yield (2 - mpf(2) ** -52) * mpf(2) ** 1023, "ln, ln_1p: the largest number"
 
 
+def table_constants():
+    points = table.of_source("src/points.rt", "POINTS", [])[: table.ROWS]
+    if not points:
+        return
+    for i, p in enumerate(points):
+        if p:
+            yield mpf(p), "atan, ln_1p: the point p of row %d, as table.py finds it" % i
+            yield atan(mpf(p)), "atan: atan p of row %d" % i
+            yield log(1 + mpf(p * p)), "ln_1p: ln(1 + q) of row %d, q being p^2 rounded" % i
+    names = ("atan: A(z)", "ln_1p: its L(z) beside a point"), ((-1, 1), (2, 2))
+    for name, signs, (coefficients, error, end) in zip(*names, table.polynomials(points)):
+        for power, c in enumerate(reversed(coefficients)):
+            said = name, mp.nstr(end, 5), power, signs[power % 2], 2 * power + 3, mp.nstr(error, 2)
+            yield c, "%s, Chebyshev's fit on [0, %s], z^%d, near %d/%d (the fit's error %s)" % said
+    yield mpf(4000000), "atan, ln_1p: the reach, inside the table's last row, which ends before 2^22"
+
+
 def atan_constants():
-    # atan t = t + t z A(z), z = t^2, |t| <= 7/16
-    most = mpf(7) / 16
-
-    def fitted(z):
-        t = sqrt(z)
-        return (atan(t) / t - 1) / z
-
-    coefficients, error = chebyfit(near_zero(fitted, -mpf(1) / 3), [0, most**2], 11, error=True)
-    for power, c in enumerate(reversed(coefficients)):
-        near = "%s1/%d" % ("-" if power % 2 == 0 else "", 2 * power + 3)
-        yield c, "atan: A(z), Chebyshev's fit on [0, (7/16)^2], z^%d, near %s (the fit's error %s)" % (power, near, mp.nstr(error, 2))
-    for value, said in ((atan(mpf(1) / 2), "atan 1/2"), (pi / 4, "atan 1"), (atan(mpf(3) / 2), "atan 3/2"), (pi / 2, "pi/2")):
-        nearest = mpf(float(value))
-        yield nearest, "atan: %s" % said
-        yield value - nearest, "atan: %s, the rest" % said
+    nearest = mpf(float(pi / 2))
+    yield nearest, "atan: pi/2"
+    yield pi / 2 - nearest, "atan: pi/2, the rest"
 
 
 def sin_constants():
@@ -130,7 +126,7 @@ def tail_constants():
 
 def derived():
     """(double, where it comes from), in the order of the functions."""
-    for group in (exp_constants, ln_constants, atan_constants, sin_constants, tail_constants):
+    for group in (exp_constants, ln_constants, table_constants, atan_constants, sin_constants, tail_constants):
         for value, said in group():
             yield float(value), said
 
@@ -176,12 +172,12 @@ def main(words):
     if words not in ([], ["--check"]):
         print("usage: constants.py [--check]", file=sys.stderr)
         return 2
-    table = list(derived())
-    for x, said in table:
+    known = list(derived())
+    for x, said in known:
         print("%016x  %-24r %s" % (bits(x), x, said))
     if not words:
         return 0
-    complaints = check({abs(x) for x, _ in table})
+    complaints = check({abs(x) for x, _ in known})
     for complaint in complaints:
         print("constants.py: " + complaint, file=sys.stderr)
     if not complaints:

@@ -17,8 +17,9 @@ typedef int (*Exact)(mpfr_t, const mpfr_t, mpfr_rnd_t);
 #define EXP_BOUND 0.75
 #define EXP_SUBNORMAL_BOUND 0.85  // the result is rounded a second time
 #define LN_BOUND 0.90
-#define LN_1P_BOUND 0.90
-#define ATAN_BOUND 0.88
+#define LN_1P_BOUND 0.80
+#define LN_1P_BELOW_BOUND 0.90  // below 0
+#define ATAN_BOUND 0.80
 #define SIN_BOUND 0.85
 // The tails' bound, absolute.
 #define TAIL_BOUND 3e-16

@@ -4,9 +4,12 @@
 #include "points.h"
 
 extern double port_exp(double), port_ln(double), port_ln_1p(double), port_atan(double), port_sin(double);
+extern double port_point(size_t i);
 extern double port_lower_tail(double mean, double variance, double x), port_upper_tail(double mean, double variance, double x);
 
 enum { WORST = 32, NEIGHBOURS = 1000, CLIMBS = 10 };
+// In each row of the table: neighbours on either side of its seam, the same of its middle and of its point, and points drawn.
+enum { BESIDE_SEAM = 2000, BESIDE_POINT = 300, INSIDE = 3000 };
 
 typedef struct {
     const char *name, *range;
@@ -61,7 +64,7 @@ static void climb(Row *row) {
     double x[WORST];
     for (int i = 0; i < WORST; i++) x[i] = row->worst[i].x;
     for (int i = 0; i < WORST; i++)
-        for (int j = 0; j < NEIGHBOURS; j++) at(row, x[i] + x[i] * sign() * scaled(-52, -5));
+        for (int j = 0; j < NEIGHBOURS; j++) at(row, x[i] + x[i] * signed_scaled(-52, -5));
 }
 
 static void finish(Row *row) {
@@ -108,20 +111,43 @@ static void ln_row(long points) {
     finish(&row);
 }
 
+static double itself(double y) { return y; }
+
+// Every row of the table, on one side of 0. argument_of has the argument for a y: itself or its root. The draws come from a stream of
+// their own, so that the families' points do not hang on them.
+static void table_points(Row *row, double (*argument_of)(double), double side) {
+    static uint64_t own = 1181783497276652981ULL;
+    uint64_t families = state;
+    state = own;
+    for (int i = 0; i < ROWS; i++) {
+        double from = argument_of(row_start(i)), to = argument_of(row_start(i + 1)), p = port_point((size_t)i);
+        around(row, side * from, BESIDE_SEAM);
+        around(row, side * (from + to) / 2, BESIDE_POINT);
+        around(row, side * argument_of(p * p), BESIDE_POINT);
+        for (int j = 0; j < INSIDE; j++) at(row, side * uniform(from, to));
+    }
+    around(row, side * argument_of(row_start(ROWS)), 10000);
+    around(row, side * argument_of(REACH), 10000);
+    around(row, side * argument_of(0x1p22), 10000);                // where the count of rows would begin again
+    own = state;
+    state = families;
+}
+
 static void ln_1p_row(long points) {
     Row row = {"ln_1p", "from 0 up", port_ln_1p, mpfr_log1p, LN_1P_BOUND, 0, 0x1.fffffffffffffp1023};
     for (long i = 0; i < points; i++) at(&row, ln_1p_point(i));
-    for (int k = -60; k <= 200; k++) {
+    table_points(&row, itself, 1);
+    for (int k = -60; k <= 200; k++) around(&row, ldexp(1, k), 60);
+    for (int k = 22; k <= 200; k++) {                              // seams of 1 + x = 2^k m, beyond the reach
         around(&row, ldexp(M_SQRT2, k) - 1, 60);
         around(&row, ldexp(1, k) - 1, 60);
-        around(&row, ldexp(1, k), 60);
     }
-    around(&row, M_SQRT2 - 1, 20000);
+    around(&row, 0x1p-1022, 1000);
     finish(&row);
 }
 
 static void ln_1p_below_row(long points) {
-    Row row = {"ln_1p", "-1 to 0", port_ln_1p, mpfr_log1p, LN_1P_BOUND, -0x1.fffffffffffffp-1, -0.0};
+    Row row = {"ln_1p", "-1 to 0", port_ln_1p, mpfr_log1p, LN_1P_BELOW_BOUND, -0x1.fffffffffffffp-1, -0.0};
     for (long i = 0; i < points; i++) at(&row, ln_1p_below_point(i));
     for (int k = 1; k <= 52; k++) {
         around(&row, ldexp(1, -k) - 1, 60);
@@ -132,12 +158,15 @@ static void ln_1p_below_row(long points) {
 }
 
 static void atan_row(long points) {
-    static const double seam[] = {0.4375, 0.6875, 1.1875, 2.4375, 0.5, 1, 1.5, 0x1p-28, 0x1p-27, 0x1p53, 0x1p54, 0x1p55};
+    // tiny, where the square underflows, where 1 / a no longer counts, where the square overflows
+    static const double seam[] = {0x1p-1022, 0x1p-538, 0x1p-511, 0x1p-28, 0x1p-27, 0x1p53, 0x1p54, 0x1p55, 0x1p512};
     Row row = {"atan", "all", port_atan, mpfr_atan, ATAN_BOUND, -0x1.fffffffffffffp1023, 0x1.fffffffffffffp1023};
     for (long i = 0; i < points; i++) at(&row, atan_point(i));
+    table_points(&row, sqrt, 1);
+    table_points(&row, sqrt, -1);
     for (unsigned i = 0; i < sizeof seam / sizeof seam[0]; i++) {
-        around(&row, seam[i], 10000);
-        around(&row, -seam[i], 10000);
+        around(&row, seam[i], 5000);
+        around(&row, -seam[i], 5000);
     }
     finish(&row);
 }
@@ -162,7 +191,10 @@ static void sin_row(long points) {
 // Beyond what the port needs, to the end of the reduction.
 static void sin_far_row(long points) {
     Row row = {"sin", "256 to 1647099 in size", port_sin, mpfr_sin, SIN_BOUND, -1647099, 1647099};
-    for (long i = 0; i < points; i++) at(&row, sign() * uniform(256, 1647099));
+    for (long i = 0; i < points; i++) {
+        double side = sign();
+        at(&row, side * uniform(256, 1647099));
+    }
     around_turns(&row, 1647099, 30);
     finish(&row);
 }

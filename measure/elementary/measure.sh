@@ -1,6 +1,6 @@
 #!/bin/sh
-# Measures exp, ln, ln_1p, atan, sin and the normal tails of crates/elementary, as they stand in src/, against MPFR, and prints the table
-# of README.md. Usage: measure.sh [POINTS]   (points a row, 1000000 unless said; two minutes a million)
+# Measures exp, ln, ln_1p, atan, sin and the normal tails of crates/elementary, as they stand in src/, against MPFR, and prints the tables
+# of docs/ACCURACY.md. Usage: measure.sh [POINTS]   (points drawn a row, 1000000 unless said: seven minutes)
 # Needs rustc, a C compiler, MPFR with its header (Debian: libmpfr-dev) and python3. Writes below target/ only.
 set -eu
 points=${1:-1000000}

@@ -1,4 +1,5 @@
 // The arguments that the measuring program and the maker of vectors draw: point number i of each function, from several families in turn.
+// No expression draws twice, as C leaves the order open: every machine draws the same points.
 #ifndef POINTS_H
 #define POINTS_H
 #include "exact.h"
@@ -14,9 +15,28 @@ static inline uint64_t draw(void) {
 static inline double uniform(double from, double to) { return from + (to - from) * ((draw() >> 11) * 0x1p-53); }
 static inline double sign(void) { return draw() & 1 ? 1.0 : -1.0; }
 // A number whose exponent is one of from to to, any of them alike.
-static inline double scaled(int from, int to) { return ldexp(uniform(1, 2), from + (int)(draw() % (unsigned)(to - from + 1))); }
+static inline double scaled(int from, int to) {
+    double digits = uniform(1, 2);
+    return ldexp(digits, from + (int)(draw() % (unsigned)(to - from + 1)));
+}
+// The same, of either sign.
+static inline double signed_scaled(int from, int to) {
+    double side = sign();
+    return side * scaled(from, to);
+}
 // Any positive number, subnormal ones included, every pattern alike.
 static inline double any_positive(void) { return of_bits(1 + draw() % 0x7fefffffffffffffULL); }
+// A subnormal number, of any count of digits alike.
+static inline double subnormal(void) {
+    uint64_t digits = draw();
+    return of_bits(1 + digits % (1ULL << (1 + draw() % 52)));
+}
+
+// The table that atan and ln_1p share (specs/Near.antt): row i serves the y from row_start(i) to the next row's; y is the argument of ln_1p,
+// and the square of atan's. From the reach on neither asks the table.
+enum { ROWS = 128 };
+#define REACH 4000000.0
+static inline double row_start(int i) { return ldexp(1 + i % 4 / 4.0, i / 4 - 10) - 0x1p-10; }
 
 // exp: -745.2 to 709.8
 static inline double exp_point(long i) {
@@ -24,7 +44,7 @@ static inline double exp_point(long i) {
     case 0: return uniform(-745.2, 709.8);
     case 1: return uniform(-2, 2);
     case 2: return uniform(-745.2, -708.3);                        // subnormal results
-    default: return sign() * scaled(-60, 9);
+    default: return signed_scaled(-60, 9);
     }
 }
 
@@ -33,13 +53,16 @@ static inline double ln_point(long i) {
     switch (i % 4) {
     case 0: return any_positive();
     case 1: return uniform(0.5, 2);
-    case 2: return 1 + sign() * scaled(-52, -2);                   // near 1
-    default: return of_bits(1 + draw() % (1ULL << (1 + draw() % 52)));  // subnormal
+    case 2: return 1 + signed_scaled(-52, -2);                   // near 1
+    default: return subnormal();
     }
 }
 
 // The integrand's v u: a weight, of both signs, times e^s with s from -30 to 60
-static inline double weighted_point(void) { return sign() * scaled(-43, 86) * uniform(1e-3, 4); }
+static inline double weighted_point(void) {
+    double u = signed_scaled(-43, 86);
+    return u * uniform(1e-3, 4);
+}
 
 // ln_1p: from 0 up
 static inline double ln_1p_point(long i) {
@@ -64,10 +87,11 @@ static inline double ln_1p_below_point(long i) {
 
 // atan: all
 static inline double atan_point(long i) {
+    double side;
     switch (i % 4) {
     case 0: return uniform(-3, 3);
-    case 1: return sign() * any_positive();
-    case 2: return sign() * scaled(-30, 60);
+    case 1: side = sign(); return side * any_positive();
+    case 2: return signed_scaled(-30, 60);
     default: return weighted_point();
     }
 }
@@ -77,7 +101,7 @@ static inline double sin_point(long i) {
     switch (i % 3) {
     case 0: return uniform(-256, 256);
     case 1: return uniform(-4, 4);
-    default: return sign() * scaled(-60, 7);
+    default: return signed_scaled(-60, 7);
     }
 }
 
@@ -88,7 +112,7 @@ static inline Place tail_point(long i) {
     switch (i % 4) {
     case 0: p.x = uniform(-9, 9); break;
     case 1: p.x = uniform(-40, 40); break;
-    case 2: p.x = sign() * scaled(-60, 5); break;
+    case 2: p.x = signed_scaled(-60, 5); break;
     default:                                                       // the test's own: a mean near 2, a small variance
         p.mean = uniform(1, 3);
         p.variance = scaled(-10, 1);

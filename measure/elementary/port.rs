@@ -17,6 +17,11 @@ pub extern "C" fn port_ln_1p(x: f64) -> f64 {
 pub extern "C" fn port_atan(x: f64) -> f64 {
     elementary::atan(x)
 }
+/// Word i of the table that ln_1p and atan share.
+#[no_mangle]
+pub extern "C" fn port_point(i: usize) -> f64 {
+    elementary::points::points()[i]
+}
 #[no_mangle]
 pub extern "C" fn port_sin(x: f64) -> f64 {
     elementary::sin(x)

@@ -8,6 +8,14 @@ enum { DRAWN = 200, NEAR = 2, MOST = 65536 / 8 };
 enum { EXP, LN, LN_1P, ATAN, SIN, LOWER_TAIL, UPPER_TAIL, FUNCTIONS };
 static const char *const names[FUNCTIONS] = {"exp", "ln", "ln_1p", "atan", "sin", "lower_tail", "upper_tail"};
 
+// Patterns of edges.
+#define INF 0x7ff0000000000000
+#define NONE 0x7ff8000000000000
+#define MINUS 0x8000000000000000
+#define ONE 0x3ff0000000000000
+#define LARGEST 0x7fefffffffffffff
+#define HALF_PI 0x3ff921fb54442d18
+
 static mpfr_t truth, end;
 
 static struct { uint64_t vectors, count, words[MOST]; } group[FUNCTIONS];
@@ -20,10 +28,13 @@ static void word(int function, double x) {
     group[function].words[group[function].count++] = bits_of(x);
 }
 
+// A NaN's sign and digits hang on the machine: it is answered by the one pattern.
+static double answer(double x) { return isnan(x) ? of_bits(NONE) : x; }
+
 static void line(int function, const double *arguments, int count, double least, double greatest) {
     for (int i = 0; i < count; i++) word(function, arguments[i]);
-    word(function, least);
-    word(function, greatest);
+    word(function, answer(least));
+    word(function, answer(greatest));
     group[function].vectors++;
 }
 
@@ -86,21 +97,51 @@ static void ln_lines(void) {
     at(&f, 0x1.fffffffffffffp1023);
 }
 
+// Points of the table that atan and ln_1p share, of its rows 4, 40, 83 and 127.
+static const uint64_t table_points[] = {0x3fa1e3608a76d5ad, 0x3ff0ef76433ef41a, 0x4045e27aedfa978c, 0x409ef314691d6974};
+enum { TABLE_POINTS = sizeof table_points / sizeof table_points[0] };
+
+// A spread of the table's seams, of every quarter: the first, the last and each ninth; the first beside a point above 0; the reach; where the
+// rows end, and where their count would begin again. Each is the y: ln_1p's argument, and the square of atan's.
+static int seams(double *y) {
+    int count = 0;
+    for (int i = 1; i < ROWS; i += 9) y[count++] = row_start(i);
+    y[count++] = row_start(4);
+    y[count++] = REACH;
+    y[count++] = row_start(ROWS);
+    y[count++] = 0x1p22;
+    return count;
+}
+
 static void ln_1p_lines(void) {
-    const Function f = {LN_1P, mpfr_log1p, LN_1P_BOUND};
+    const Function f = {LN_1P, mpfr_log1p, LN_1P_BOUND}, below = {LN_1P, mpfr_log1p, LN_1P_BELOW_BOUND};
+    double y[ROWS];
+    int count = seams(y);
     for (int i = 0; i < DRAWN; i++) at(&f, ln_1p_point(i));
-    for (int i = 0; i < DRAWN; i++) at(&f, ln_1p_below_point(i));
-    for (int k = 0; k <= 60; k += 6) around(&f, ldexp(M_SQRT2, k) - 1);
-    around(&f, M_SQRT1_2 - 1);
+    for (int i = 0; i < DRAWN; i++) at(&below, ln_1p_below_point(i));
+    for (int i = 0; i < count; i++) around(&f, y[i]);
+    for (int i = 0; i < TABLE_POINTS; i++) at(&f, of_bits(table_points[i]) * of_bits(table_points[i]));
+    for (int k = 24; k <= 60; k += 12) around(&f, ldexp(M_SQRT2, k) - 1);
+    around(&below, M_SQRT1_2 - 1);
     around(&f, 1);
     around(&f, 0x1p53);
     at(&f, 0x1.fffffffffffffp1023);
 }
 
 static void atan_lines(void) {
-    static const double seam[] = {0.4375, 0.6875, 1.1875, 2.4375, 0.5, 1, 1.5, 0x1p-28, 0x1p54};
+    static const double seam[] = {1, 0x1p-28, 0x1p54};
     const Function f = {ATAN, mpfr_atan, ATAN_BOUND};
+    double y[ROWS];
+    int count = seams(y);
     for (int i = 0; i < DRAWN; i++) at(&f, atan_point(i));
+    for (int i = 0; i < count; i++) {
+        around(&f, sqrt(y[i]));
+        at(&f, -sqrt(y[i]));
+    }
+    for (int i = 0; i < TABLE_POINTS; i++) {
+        at(&f, of_bits(table_points[i]));
+        at(&f, -of_bits(table_points[i]));
+    }
     for (unsigned i = 0; i < sizeof seam / sizeof seam[0]; i++) {
         around(&f, seam[i]);
         around(&f, -seam[i]);
@@ -132,13 +173,6 @@ static void tail_lines(void) {
 }
 
 // Answers to the bit: IEEE 754 (9.2.1) for what it names; a NaN for the sine beyond its reduction; of the tails, what their definition says.
-#define INF 0x7ff0000000000000
-#define NONE 0x7ff8000000000000
-#define MINUS 0x8000000000000000
-#define ONE 0x3ff0000000000000
-#define LARGEST 0x7fefffffffffffff
-#define HALF_PI 0x3ff921fb54442d18
-
 static void edge_lines(void) {
     static const struct { int name; uint64_t x, answer; } edges[] = {
         {EXP, 0, ONE}, {EXP, MINUS, ONE}, {EXP, 1, ONE}, {EXP, MINUS | 1, ONE}, {EXP, INF, INF}, {EXP, MINUS | INF, 0}, {EXP, NONE, NONE},

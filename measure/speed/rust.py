@@ -1,9 +1,10 @@
 #!/usr/bin/env python3
-"""Compiles the Rust of docs/src for x86-64 as the library `answers`, from the very copies that oracle/build makes.
+"""Compiles the Rust of docs/src as the library `answers`, from the very copies that oracle/build makes.
 
-Usage: rust.py BUILD OUT SPEED
-BUILD is `platform` (over the platform's functions) or `port` (over the port's). SPEED is the folder that setup.sh made ready. OUT gets
-libanswers.rlib, the plain copy; libstaged.rlib, a copy that can be told to end after a stage (STAGES below); and what they stand on.
+Usage: rust.py BUILD OUT SPEED [COMPILER]
+BUILD is `platform` (over the platform's functions) or `port` (over the port's). SPEED is the folder that setup.sh made ready, and COMPILER
+which of its two is taken: `rustc`, for x86-64 (unless said), or `own-rustc`, for the machine itself. OUT gets libanswers.rlib, the plain copy;
+libstaged.rlib, a copy that can be told to end after a stage (STAGES below); and what they stand on.
 """
 import importlib.machinery
 import importlib.util
@@ -75,10 +76,11 @@ def compile_library(rustc, out, name, root, needs, kind="rlib", flags=()):
 
 
 def main(words):
-    if len(words) != 3 or words[0] not in ("platform", "port"):
-        print("usage: rust.py platform|port OUT SPEED", file=sys.stderr)
+    words = words + ["rustc"] if len(words) == 3 else words
+    if len(words) != 4 or words[0] not in ("platform", "port") or words[3] not in ("rustc", "own-rustc"):
+        print("usage: rust.py platform|port OUT SPEED [rustc|own-rustc]", file=sys.stderr)
         return 2
-    build, out, speed = words
+    build, out, speed, compiler = words
     oracle = oracle_build()
     files = oracle.generate(build, "rustc")
     for name in list(files):
@@ -108,7 +110,7 @@ def main(words):
         if name == "thiserror":
             compile_library([own], out, name, root, needs, "proc-macro", ["--extern", "proc_macro"])
         else:
-            compile_library([os.path.join(speed, "rustc")], out, name, root, needs)
+            compile_library([os.path.join(speed, compiler)], out, name, root, needs)
     return 0
 
 

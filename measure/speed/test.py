@@ -1,15 +1,17 @@
 #!/usr/bin/env python3
 """Measures the test of the port beside the Rust of docs/src, on the same sheets, in one run, and prints the tables of docs/SPEED.md.
 
-Usage: test.py [whole] [file] [stages] [time]      all where none is named; `time` only where the machine is x86-64
+Usage: test.py [whole] [file] [stages] [time]      all where none is named
 
-whole   the whole test: instructions a call, by rows, columns and path
+whole   the whole test: instructions a call, by rows, columns and path; some lines have a bound
 file    a sheet file of 64 sheets: the port's program and the Rust reading the same file
 stages  instructions of each stage, by rows, two columns
-time    the whole test in microseconds, the best of many rounds
+time    the whole test in microseconds on the machine itself, one sheet a line, the best of many rounds; nothing rests on it
 
 Instructions are the guest's, counted under QEMU by a run of the calls less a run of none, so two runs give the same numbers on every machine.
-Needs the kit's rt and what setup.sh installs (it is run where target/speed is not ready: as root, for apt-get). Writes below target/ only.
+Status 1 where a line of `whole` is above its bound (a line on standard error says which), and where something fails.
+Needs the kit's rt (but not for `time` alone where the machine is no x86-64) and what setup.sh installs (it is run where target/speed is not
+ready: as root, for apt-get). Writes below target/ only.
 """
 import os
 import platform
@@ -25,8 +27,17 @@ OPTIMIZED = ["--edition", "2021", "-C", "opt-level=3", "-C", "codegen-units=1"]
 
 # Rows, path, and how many drawn sheets are called.
 LINES = [(3, "exact", 20), (20, "exact", 10), (64, "exact", 4), (99, "exact", 3), (256, "exact", 2), (112, "normal", 20), (256, "normal", 20)]
+# The most that the port's instructions may be of the shipped Rust's (qemu64), by rows, path and columns.
+BOUNDS = {(20, "exact", 2): 0.40, (64, "exact", 2): 0.42, (99, "exact", 2): 0.42, (256, "exact", 2): 0.36}
 STAGED = [(20, 8), (32, 6), (64, 4), (128, 2), (256, 1)]
 STAGES = ["checks, statistic", "inverse", "M A M", "Householder", "QL, order", "integral"]
+
+# `time`: how often each program runs a line, a tenth of a second each; and the share of the Rust's time above which a line is marked.
+ROUNDS = 10
+MARK = 0.9
+# Programs of the port are compiled for x86-64. Elsewhere its sources are timed as Rust, and the programs for that have names of their own.
+NATIVE = platform.machine() == "x86_64"
+OWN = "" if NATIVE else "own-"
 
 
 def fail(message):
@@ -81,14 +92,40 @@ def build_kit():
         "-o", os.path.join(SPEED, "test-kit"), os.path.join(HERE, "test.rs")])
 
 
-def build_rust(build):
-    out = os.path.join(SPEED, "rust", build)
-    os.makedirs(out, exist_ok=True)
-    logged([sys.executable, os.path.join(HERE, "rust.py"), build, out, SPEED], "rust-%s.log" % build, ROOT)
-    words = [os.path.join(SPEED, "rustc")] + OPTIMIZED + ["-C", "lto=fat", "-L", out]
-    for library in ("answers", "staged"):
+def build_linked(own, name, out, libraries, flags=()):
+    """The program test-NAME over Rust libraries, optimized across them."""
+    words = [os.path.join(SPEED, own + "rustc")] + OPTIMIZED + ["-C", "lto=fat", "-L", out] + list(flags)
+    for library in libraries:
         words += ["--extern", "%s=%s" % (library, os.path.join(out, "lib%s.rlib" % library))]
-    run(words + ["-o", os.path.join(SPEED, "test-" + build), os.path.join(HERE, "test.rs")])
+    run(words + ["-o", os.path.join(SPEED, "test-" + own + name), os.path.join(HERE, "test.rs")])
+
+
+def build_rust(build, own=""):
+    """The Rust of docs/src: for x86-64, or with "own-" for the machine itself."""
+    out = os.path.join(SPEED, "rust", own + build)
+    os.makedirs(out, exist_ok=True)
+    logged([sys.executable, os.path.join(HERE, "rust.py"), build, out, SPEED, own + "rustc"], "rust-%s.log" % (own + build), ROOT)
+    build_linked(own, build, out, ["answers", "staged"])
+
+
+def build_sources(own):
+    """The port's sources as Rust, by the compiler and with the settings of the Rust of docs/src (port.py's -O is opt-level 3)."""
+    out = os.path.join(SPEED, "rust", own + "sources")
+    logged([sys.executable, os.path.join(ROOT, "measure", "elementary", "port.py"), "dwtest", out, os.path.join(SPEED, own + "rustc"),
+            "-C", "codegen-units=1"], "rust-%ssources.log" % own, ROOT)
+    build_linked(own, "sources", out, ["dwtest", "design"], ["--cfg", "sources"])
+
+
+def build(words):
+    if NATIVE or any(word != "time" for word in words):
+        build_kit()
+        build_rust("port")
+        build_rust("platform")
+    if "time" in words:
+        build_sources(OWN)
+        if not NATIVE:
+            build_rust("port", OWN)
+            build_rust("platform", OWN)
 
 
 def count(words, cpu="qemu64", given=None):
@@ -130,8 +167,11 @@ def line_table():
 
 
 def whole():
+    """Gives what to complain of: the lines above their bounds."""
     print("The whole test, thousands of instructions a call\n")
-    head("rows", "path", "columns", "port", "Rust, port's functions", "Rust, qemu64", "Rust, Haswell", "of the first", "of qemu64", "of Haswell")
+    head("rows", "path", "columns", "port", "Rust, port's functions", "Rust, qemu64", "Rust, Haswell", "of the first", "of qemu64", "of Haswell",
+         "bound of qemu64")
+    above = []
     for rows, path, columns, sheets in line_table():
         port, p = calls("kit", "calls", rows, columns, path, sheets)
         same, p_same = calls("port", "calls", rows, columns, path, sheets)
@@ -139,9 +179,17 @@ def whole():
             fail("%d rows, %d columns, %s: the port and the Rust over its functions give other bits" % (rows, columns, path))
         plain, _ = calls("platform", "calls", rows, columns, path, sheets)
         fma, _ = calls("platform", "calls", rows, columns, path, sheets, "Haswell")
+        bound = BOUNDS.get((rows, path, columns))
+        said = ""
+        if bound is not None:
+            said = "%.2f: %s" % (bound, "met" if port <= bound * plain else "**above**")
+            if port > bound * plain:
+                above.append("%d rows, %s, %d columns: %.4f of the Rust's instructions (qemu64), above the bound %.2f"
+                             % (rows, path, columns, port / plain, bound))
         show(rows, path, columns, thousands(port), thousands(same), thousands(plain), thousands(fma),
-             "%.2f" % (port / same), "%.2f" % (port / plain), "%.2f" % (port / fma))
+             "%.2f" % (port / same), "%.2f" % (port / plain), "%.2f" % (port / fma), said)
     print()
+    return above
 
 
 def one_file():
@@ -196,34 +244,50 @@ def stages():
 
 
 def timed():
-    print("The whole test, microseconds a call\n")
-    head("rows", "path", "columns", "port", "Rust, port's functions", "Rust", "of the first", "of the Rust")
-    for rows, path, columns, sheets in line_table():
-        took = []
-        for side in ("kit", "port", "platform"):
-            words = [os.path.join(SPEED, "test-" + side), "time", str(rows), str(columns), path, str(sheets)]
-            took.append(float(run(words, capture_output=True).stdout) / 1000)
-        show(rows, path, columns, *["%.1f" % t for t in took], "%.2f" % (took[0] / took[1]), "%.2f" % (took[0] / took[2]))
+    """Each line is one sheet. The programs take turns at it, and the lines too, ROUNDS times; of each program the best counts. Those over the port's
+    functions must agree on p."""
+    sides = {"kit": "port", "sources": "port as Rust", "port": "Rust, port's functions", "platform": "Rust"}
+    if not NATIVE:
+        del sides["kit"]
+    ported = [side for side in ("kit", "sources") if side in sides]
+    best = {}
+    for _ in range(ROUNDS):
+        for rows, path, columns, _ in line_table():
+            found = set()
+            for side in sides:
+                words = [os.path.join(SPEED, "test-" + (side if side == "kit" else OWN + side)), "time", str(rows), str(columns), path]
+                took, p = run(words, capture_output=True).stdout.decode().split()
+                best[rows, path, columns, side] = min(best.get((rows, path, columns, side), float("inf")), float(took) / 1000)
+                if side != "platform":
+                    found.add(p)
+            if len(found) != 1:
+                fail("%d rows, %d columns, %s: the port and the Rust over its functions give other bits" % (rows, columns, path))
+    print("The whole test on one sheet, microseconds a call, on this machine (%s), the best of many rounds\n" % platform.machine())
+    head("rows", "path", "columns", *sides.values(), *["%s, of the Rust" % sides[side] for side in ported], "above %.1f" % MARK)
+    for rows, path, columns, _ in line_table():
+        took = {side: best[rows, path, columns, side] for side in sides}
+        share = {side: took[side] / took["platform"] for side in ported}
+        show(rows, path, columns, *["%.1f" % took[side] for side in sides], *["%.2f" % share[side] for side in ported],
+             ", ".join(sides[side] for side in ported if share[side] > MARK))
     print()
 
 
 def main(words):
-    native = platform.machine() == "x86_64"
     tables = {"whole": whole, "file": one_file, "stages": stages, "time": timed}
     if any(word not in tables for word in words):
         print("usage: test.py [whole] [file] [stages] [time]", file=sys.stderr)
         return 2
-    if "time" in words and not native:
-        fail("time is measured on x86-64 only: programs of the port are compiled for it")
-    if not shutil.which("rt"):
+    words = words or list(tables)
+    if (NATIVE or words != ["time"]) and not shutil.which("rt"):
         fail("no rt on the PATH")
     run([os.path.join(HERE, "setup.sh"), SPEED])
-    build_kit()
-    build_rust("port")
-    build_rust("platform")
-    for word in words or [name for name in tables if native or name != "time"]:
-        tables[word]()
-    return 0
+    build(words)
+    above = []
+    for word in words:
+        above += tables[word]() or []
+    for line in above:
+        print("test.py: " + line, file=sys.stderr)
+    return 1 if above else 0
 
 
 if __name__ == "__main__":

@@ -1,12 +1,12 @@
 //! Calls the test on drawn sheets: one side of the comparison, chosen when it is compiled: `--cfg kit` is the port as the kit compiles it,
-//! else the Rust of docs/src as rust.py compiles it.
+//! `--cfg sources` the port's sources as Rust (measure/elementary/port.py), else the Rust of docs/src as rust.py compiles it.
 //!
 //! test calls ROWS COLUMNS exact|normal SHEETS CALLS   CALLS calls, sheet after sheet; prints the bits of the sum of the p's
 //! test stage ROWS COLUMNS STAGE SHEETS CALLS          the same, each call ended after a stage: 0 the statistic, 1 the inverse, 2 M A M,
-//!                                                     3 Householder, 4 QL and order, 5 the integral
-//! test time ROWS COLUMNS exact|normal SHEETS          the time of a call in nanoseconds, the best of many rounds over the sheets
+//!                                                     3 Householder, 4 QL and order, 5 the integral (not with --cfg sources)
+//! test time ROWS COLUMNS exact|normal                 the time of a call on the first drawn sheet, in nanoseconds: the best of a tenth of a second; and p's bits
 //! test draw                                           writes a full sheet file of 64 sheets to standard output
-//! test file                                           answers a sheet file from standard input (not with --cfg kit, where the port's own program does it)
+//! test file                                           answers a sheet file from standard input (the Rust of docs/src alone; the port's own program does it too)
 use std::hint::black_box;
 use std::time::Instant;
 
@@ -115,7 +115,29 @@ mod side {
     }
 }
 
-#[cfg(not(kit))]
+#[cfg(sources)]
+mod side {
+    use super::Sheet;
+
+    /// The rooms that the port works in.
+    pub struct Side {
+        matrix: Vec<f64>,
+        parts: Vec<f64>,
+    }
+
+    impl Side {
+        pub fn new() -> Side {
+            Side { matrix: vec![0.0; 256 * 257], parts: vec![0.0; 8004] }
+        }
+
+        pub fn whole(&mut self, s: &Sheet, exact: bool) -> f64 {
+            let choice = if exact { dwtest::Choice::Exact } else { dwtest::Choice::Normal };
+            dwtest::durbin_watson_test(&s.residuals, &s.columns, s.k, design::Alternative::Greater, choice, &mut self.matrix, &mut self.parts).p
+        }
+    }
+}
+
+#[cfg(not(any(kit, sources)))]
 mod side {
     use super::Sheet;
     use std::sync::atomic::Ordering;
@@ -183,13 +205,13 @@ fn is_exact(word: &str) -> bool {
     }
 }
 
-fn drawn(words: &[String]) -> Vec<Sheet> {
+fn drawn(words: &[String], sheets: usize) -> Vec<Sheet> {
     let mut draws = Draws(88172645463325252);
-    (0..number(words, 5)).map(|_| sheet(&mut draws, number(words, 2), number(words, 3))).collect()
+    (0..sheets).map(|_| sheet(&mut draws, number(words, 2), number(words, 3))).collect()
 }
 
 fn calls(words: &[String], mut call: impl FnMut(&Sheet) -> f64) {
-    let sheets = drawn(words);
+    let sheets = drawn(words, number(words, 5));
     let mut sum = 0.0;
     for index in 0..number(words, 6) {
         sum += call(black_box(&sheets[index % sheets.len()]));
@@ -197,21 +219,24 @@ fn calls(words: &[String], mut call: impl FnMut(&Sheet) -> f64) {
     println!("{:016x}", sum.to_bits());
 }
 
-/// The best of many rounds, in nanoseconds a call; as many as a second or so holds.
-fn time(sheets: &[Sheet], exact: bool) -> f64 {
+/// The best of many rounds, in nanoseconds a call, and p. A round is as many calls as take some 20 microseconds, so that reading the clock is
+/// little of it; the rounds go on for a tenth of a second, and are three at least.
+fn time(s: &Sheet, exact: bool) -> (f64, f64) {
     let mut side = side::Side::new();
     let start = Instant::now();
+    let p = side.whole(black_box(s), exact);
+    let calls = (20e-6 / start.elapsed().as_secs_f64()).ceil();
     let mut best = f64::INFINITY;
     let mut rounds = 0;
-    while rounds < 5 || start.elapsed().as_secs_f64() < 1.0 {
+    while rounds < 3 || start.elapsed().as_secs_f64() < 0.1 {
         let round = Instant::now();
-        for s in sheets {
+        for _ in 0..calls as usize {
             black_box(side.whole(black_box(s), exact));
         }
         best = best.min(round.elapsed().as_secs_f64());
         rounds += 1;
     }
-    best * 1e9 / sheets.len() as f64
+    (best * 1e9 / calls, p)
 }
 
 /// 64 sheets of 1 to 4 columns and as many rows as fill the file, greater, default.
@@ -241,14 +266,18 @@ fn main() {
             let mut side = side::Side::new();
             calls(&words, |s| side.whole(s, exact));
         }
+        #[cfg(not(sources))]
         ("stage", 7) => {
             let last = number(&words, 4);
             let mut side = side::Side::new();
             calls(&words, |s| side.staged(s, last));
         }
-        ("time", 6) => println!("{:.0}", time(&drawn(&words), is_exact(&words[4]))),
+        ("time", 5) => {
+            let (nanoseconds, p) = time(&drawn(&words, 1)[0], is_exact(&words[4]));
+            println!("{nanoseconds:.0} {:016x}", p.to_bits());
+        }
         ("draw", 2) => std::io::stdout().write_all(&draw_file()).unwrap_or_else(|_| refuse("can't write")),
-        #[cfg(not(kit))]
+        #[cfg(not(any(kit, sources)))]
         ("file", 2) => {
             let mut bytes = Vec::new();
             std::io::Read::read_to_end(&mut std::io::stdin(), &mut bytes).unwrap_or_else(|_| refuse("can't read"));

@@ -13,7 +13,7 @@ use lib.Ieee.Fits.{down-pos}
 use Rattle.floats.specs.Words.{_⊖_, plusZero, one}
 use Rattle.roots.specs.Root.{sqrtOf}
 use Rattle.elementary.specs.Patterns.{noNumber}
-use Rattle.elementary.specs.Ln.{lnOf, ln1pOf, leastNormal, fLeast, fMost}
+use Rattle.elementary.specs.Ln.{lnOf, ln1pBy, ln1pOf, leastNormal, fLeast}
 use Rattle.elementary.specs.Sin.{sinOf, sinReduced, furthest}
 use Rattle.elementary.specs.Tails.{lowerTail, upperTail}
 use Rattle.elementary.specs.declared.NormalLaw.{NormalLaw}
@@ -66,10 +66,10 @@ unfolding le ofBits
 no-normal b x far = refl
 no-normal b x (part m e h) = not-level (1 * down e) _ (omega (arith, down-pos e))
 
-no-most : (b : ℕ) (x : Float) → Under b x → le fMost x ≡ false
+not-from : (b : ℕ) (x : Float) → Under b x → le plusZero x ≡ false
 unfolding le ofBits
-no-most b x far = refl
-no-most b x (part m e h) = not-level (3730904090310553 * down e) _ (omega (arith, down-pos e))
+not-from b x far = refl
+not-from b x (part m e h) = rw (ne-eqb (0 * down e) (m * up e * 1) (λ q. omega (arith, zero-mul (down e))))
 
 not-above : (b : ℕ) (x : Float) → Under b x → lt plusZero x ≡ false
 unfolding lt ofBits
@@ -101,8 +101,8 @@ unfolding lnOf
 ln-below x h = let u = under-zero x h in rw (no-normal 0 x u, not-above 0 x u, not-zero 0 x u) no-number
 
 pub ln1p-below : (x : Float) → lt x (neg one) ≡ true → ln1pOf x ≡ nan
-unfolding ln1pOf
-ln1p-below x h = let u = under-one x h in rw (no-most 1 x u, not-least x u, not-past x u, not-one x u) no-number
+unfolding ln1pOf ln1pBy
+ln1p-below x h = let u = under-one x h in rw (not-from 1 x u, not-least x u, not-past x u, not-one x u) no-number
 
 -- ---- a variance below 0
 root-none : (v : Float) → Under 0 v → sqrtOf v ≡ nan

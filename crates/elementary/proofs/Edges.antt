@@ -5,9 +5,12 @@ use lib.Ieee.{Float, nan, inf, neg, add, sub, mul, div, lt, le, eq, ne, ofBits, 
 use Rattle.roots.specs.Root.{sqrtOf}
 use Rattle.floats.specs.Words.{float, plusZero, minusZero, one, two}
 use Rattle.elementary.specs.Exp.{expOf}
-use Rattle.elementary.specs.Ln.{lnOf, ln1pOf}
-use Rattle.elementary.specs.Atan.{atanOf}
+use Rattle.elementary.specs.Ln.{lnOf, ln1pBy, ln1pOf}
+use Rattle.elementary.specs.Atan.{angleFar, atanSize, atanBy, atanOf}
 use Rattle.elementary.specs.Sin.{sinOf}
+use Rattle.elementary.specs.Points.{points}
+use Rattle.elementary.specs.Near.{placeOf, angleRest, angleNear, logNear}
+use Rattle.floats.specs.Signs.{minus}
 use Rattle.elementary.specs.Patterns.{half}
 use Rattle.elementary.specs.Tails.{halfTail, lowerTail, upperTail}
 use Rattle.elementary.specs.declared.NormalLaw.{NormalLaw}
@@ -37,13 +40,13 @@ ln-edges = (refl, refl, refl, refl, refl, refl, refl, refl, refl, refl)
 
 pub ln1p-edges : (ln1pOf nan ≡ nan) × (ln1pOf (inf false) ≡ inf false) × (ln1pOf (inf true) ≡ nan) × (ln1pOf plusZero ≡ plusZero) × (ln1pOf minusZero ≡ minusZero)
     × (ln1pOf (neg one) ≡ inf true) × (ln1pOf (neg two) ≡ nan) × (ln1pOf smallest ≡ smallest) × (ln1pOf one ≡ float 0x3fe62e42fefa39ef) × (ln1pOf largest ≡ float 0x40862e42fefa39ef)
-unfolding ln1pOf add sub mul div lt le eq neg ofBits toBits ofInt
+unfolding ln1pOf ln1pBy points placeOf logNear add sub mul div lt le eq neg ofBits toBits ofInt
 ln1p-edges = (refl, refl, refl, refl, refl, refl, refl, refl, refl, refl)
 
 -- pi/2 and pi/4
 pub atan-edges : (atanOf nan ≡ nan) × (atanOf (inf false) ≡ float 0x3ff921fb54442d18) × (atanOf (inf true) ≡ float 0xbff921fb54442d18) × (atanOf plusZero ≡ plusZero)
     × (atanOf minusZero ≡ minusZero) × (atanOf one ≡ float 0x3fe921fb54442d18) × (atanOf smallest ≡ smallest) × (atanOf (neg smallest) ≡ neg smallest) × (atanOf largest ≡ float 0x3ff921fb54442d18)
-unfolding atanOf add sub mul div lt neg ofBits
+unfolding atanOf atanBy atanSize angleFar angleRest angleNear placeOf points minus add sub mul div lt neg ofBits toBits
 atan-edges = (refl, refl, refl, refl, refl, refl, refl, refl, refl)
 
 -- The sine of pi/2 rounded is 1. 1647099 is the last with a value.

@@ -1,4 +1,4 @@
--- Laws of the definitions: what is proved of the tails (Bounds), on what (Leaning, Small, RootPositive), and the values at the edges.
+-- Laws of the definitions: what is proved of the tails (Bounds), on what (Leaning, Small, RootPositive), the values at the edges, and the table.
 pub mod Leaning
 pub mod Small
 pub mod RootPositive
@@ -6,3 +6,4 @@ pub mod Bounds
 pub mod Edges
 pub mod Beyond
 pub mod Outcomes
+pub mod PlaceLaws

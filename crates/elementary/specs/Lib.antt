@@ -1,5 +1,7 @@
 pub mod Patterns
 pub mod Horner
+pub mod Points
+pub mod Near
 pub mod Exp
 pub mod Ln
 pub mod Atan

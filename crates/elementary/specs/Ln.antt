@@ -7,10 +7,11 @@
 --      L by a polynomial of degree 7 fitted on |s| ≤ 0.1716: even powers of z and odd ones apart, each by Horner's rule in z².
 --   3. ln (1 + f) = f - (h - s (h + L)), h = f² / 2: f is exact, and the rest is small beside it.
 --   4. ln w = k ln 2 + ln (1 + f), with ln 2 in two parts, the first of 40 digits, so that k times it is exact.
--- ln (1 + x): from √½ - 1 to √2 - 1 steps 2 and 3 with f = x. Else w = 1 + x, rounded; with d what it lost, ln (1 + x) = ln w + d / w.
+-- ln (1 + x): from 0 to below 4000000 by the table that it shares with the arc tangent (Near). From √½ - 1 to 0 steps 2 and 3 with f = x. Else w = 1 + x, rounded; with d what it lost,
+-- ln (1 + x) = ln w + d / w.
 -- Values: ln ±0 = -infinity, ln +infinity = +infinity, NaN below 0 and at NaN, ln 1 = +0.
 --   ln (1 + ±0) = ±0, ln (1 + -1) = -infinity, ln (1 + infinity) = +infinity, NaN below -1 and at NaN.
--- Largest error found: 0.886 units in the last place for ln, and for ln (1 + x) 0.873 from 0 up and 0.884 below 0 (measure/elementary/README.md). The constants are derived by measure/elementary/constants.py.
+-- Largest error found: 0.886 units in the last place for ln, and for ln (1 + x) 0.766 from 0 up and 0.884 below 0 (measure/elementary/README.md). The constants are derived by measure/elementary/constants.py and table.py.
 use mathlib.Core.Bool.{cond}
 use mathlib.Core.List.{List, [], _∷_, map}
 use lib.Ieee.{Float, binary64, toBits, lt, le, eq, neg}
@@ -18,6 +19,8 @@ use Rattle.floats.specs.Words.{_⊕_, _⊖_, _⊗_, _⊘_, _‼_, float, one, t
 use Rattle.elementary.specs.Patterns.{half, fieldOf, raised, digitsOf, minusInfinity, noNumber}
 use Rattle.elementary.specs.Horner.{horner}
 use Rattle.elementary.specs.Exp.{lnTwo}
+use Rattle.elementary.specs.Near.{reach, logBy}
+use Rattle.elementary.specs.Points.{points}
 
 -- L's coefficients at z⁶, z⁴, z² and at z⁷, z⁵, z³, z
 abbrev pub lnEven : List Float
@@ -47,10 +50,7 @@ bias = float 0x408ff80000000000
 abbrev pub biasScaled : Float
 biasScaled = float 0x4090d40000000000
 
--- √2 - 1 and √½ - 1
-abbrev pub fMost : Float
-fMost = float 0x3fda827999fcef32
-
+-- √½ - 1
 abbrev pub fLeast : Float
 fLeast = float 0xbfd2bec333018866
 
@@ -78,13 +78,17 @@ lnOf x =
     (cond (lt plusZero x) (lnNormal (x ⊗ twoTo54) biasScaled plusZero)
     (cond (eq x plusZero) minusInfinity noNumber))
 
--- ln (1 + x)
-unfoldable pub ln1pOf : Float → Float
-ln1pOf x =
+-- ln (1 + x), by the table ps
+unfoldable pub ln1pBy : List Float → Float → Float
+ln1pBy ps x =
     let w = one ⊕ x in
     let below = lnNormal w bias ((x ⊖ (w ⊖ one)) ⊘ w) in
     let above = lnNormal w bias ((one ⊖ (w ⊖ x)) ⊘ w) in
-    cond (le fMost x) (cond (le one x) (cond (le x largest) above x) below)
+    cond (le plusZero x) (cond (lt x reach) (logBy ps x) (cond (le x largest) above x))
     (cond (lt fLeast x) (x ⊖ lnRest x plusZero)
     (cond (lt (neg one) x) below
     (cond (eq x (neg one)) minusInfinity noNumber)))
+
+-- ln (1 + x)
+unfoldable pub ln1pOf : Float → Float
+ln1pOf x = ln1pBy points x

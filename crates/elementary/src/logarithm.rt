@@ -29,9 +29,7 @@ pub const LEAST_NORMAL: f64 = 2.2250738585072014e-308; // 0010000000000000
 
 pub const LARGEST: f64 = 1.7976931348623157e308; // 7fefffffffffffff
 
-// sqrt(2) - 1 and sqrt(1/2) - 1
-pub const F_MOST: f64 = 0.41421356237309503; // 3fda827999fcef32
-
+// sqrt(1/2) - 1
 pub const F_LEAST: f64 = -0.2928932188134524; // bfd2bec333018866
 
 // f - (ln(1 + f) + g), for f from sqrt(1/2) - 1 to sqrt(2) - 1.

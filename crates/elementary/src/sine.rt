@@ -1,5 +1,6 @@
 // The steps of sin (specs/Sin.antt has the method), and its constants.
 ghost use mathlib.Core.Path.{_≡_};
+ghost use Prim.Native.Nat.{_<_};
 ghost use Rattle.elementary.specs.Sin.{sinKernel, cosKernel, quarterTurns, sinReduced};
 use crate::polynomials::horner;
 use floats::bits::bits_of;
@@ -60,20 +61,15 @@ fn cos_kernel(r: f64, c: f64) -> f64
     w + (((1.0 - w) - h) + (z * z * horner(&COS, z) + r * c))
 }
 
-// The sine of q quarter turns and r - c.
+// The sine of q quarter turns and r - c. Both kernels are worked out, so that a loop of it has no branch.
 fn quarter_turns(q: u64, r: f64, c: f64) -> f64
+    requires { ⌜ q < 4 ⌝ }
     ensures { λ y. ⌜ y ≡ quarterTurns q r c ⌝ }
 {
-    if q == 0 {
-        return sin_kernel(r, c);
-    }
-    if q == 1 {
-        return cos_kernel(r, c);
-    }
-    if q == 2 {
-        return -sin_kernel(r, c);
-    }
-    -cos_kernel(r, c)
+    let s = sin_kernel(r, c);
+    let k = cos_kernel(r, c);
+    let size = if q % 2 == 0 { s } else { k };
+    if q < 2 { size } else { -size }
 }
 
 // sin(x), for |x| up to FURTHEST.

@@ -1,3 +1,6 @@
+pub mod ProductLaws
+pub mod LaneLaws
+pub mod RuleLaws
 pub mod WeightLaws
 pub mod RoomLaws
 pub mod StageLaws

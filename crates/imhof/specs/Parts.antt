@@ -15,7 +15,7 @@ use Rattle.floats.specs.declared.tally.Tally.{Tally}
 use Rattle.imhof.specs.declared.Part.{Part}
 use Rattle.imhof.specs.declared.Standing.{Standing}
 use Rattle.imhof.specs.declared.Standing.the-variants.{Open, Settled, Refused}
-use Rattle.imhof.specs.Rule.{gk15Of, middleOf}
+use Rattle.imhof.specs.Rule.{gk15Of, middleOf, ruleSize}
 
 -- part t of a list; there is none past the end
 abbrev pub partAt : List Part → ℕ → Part
@@ -69,9 +69,9 @@ stage ps t s = record { parts = ps; tally = t; standing = s }
 abbrev pub tolerance : Float
 tolerance = float 0x3d95fd7fe1796495
 
--- one gk15 is 15 evaluations of the integrand
+-- one gk15 is an evaluation of the integrand at each of its points
 abbrev pub oneRule : Tally → Tally
-oneRule t = evaluated 15 t
+oneRule t = evaluated ruleSize t
 
 -- the one part from a to b
 abbrev pub firstStage : (Float → Float) → Float → Float → Stage

@@ -1,20 +1,21 @@
 -- The Gauss-Kronrod rule of 7 and 15 points on an interval: an estimate of the integral, and of its error.
 -- Numbers are given by their bit patterns, each operation is rounded once (floats' Words). Definitions only. Assumes nothing.
 use Prim.Native.Nat.{ℕ, _+_, _*_}
-use mathlib.Core.List.{List, [], _∷_, map}
+use mathlib.Core.List.{List, [], _∷_, _++_, map}
+use lib.ListN.{length}
 use lib.Ieee.{Float}
-use Rattle.floats.specs.Words.{_⊕_, _⊖_, _⊗_, _‼_, float}
+use Rattle.floats.specs.Words.{_⊕_, _⊖_, _⊗_, _‼_, float, plusZero, one}
 use Rattle.floats.specs.Signs.{absOf}
 use Rattle.floats.specs.Turns.{turns}
 use Rattle.imhof.specs.declared.Part.{Part}
 use Rattle.imhof.specs.Range.{half}
 
--- the nodes on [0, 1], from the outermost to 0
+-- the nodes above 0 on [0, 1], from the outermost in; the last node of the rule is 0, the middle
 abbrev pub nodes : List Float
 nodes =
     map float
     (0x3fefba009d4d09b1 ∷ 0x3fee5f178e7c6229 ∷ 0x3febacf827b9bb3e ∷ 0x3fe7ba9f9be3a1d5 ∷ 0x3fe2c13a049dfa24 ∷ 0x3fd9f95df119fd62 ∷
-    0x3fca98b2892e0c78 ∷ 0x0000000000000000 ∷ [])
+    0x3fca98b2892e0c78 ∷ [])
 
 -- Kronrod's weights of all nodes
 abbrev pub kronrod : List Float
@@ -27,26 +28,48 @@ kronrod =
 abbrev pub gauss : List Float
 gauss = map float (0x3fc092f69f826d57 ∷ 0x3fd1e6b1713d8645 ∷ 0x3fd86fe74ee32b3d ∷ 0x3fdabfd7e03c2fa6 ∷ [])
 
--- f at both nodes i of the interval with the middle c and half the width h
-abbrev pub pairOf : (Float → Float) → Float → Float → ℕ → Float
-pairOf f c h i = f (c ⊖ h ⊗ nodes ‼ i) ⊕ f (c ⊕ h ⊗ nodes ‼ i)
-
--- Kronrod's sum: the middle, then the pairs 0 to 6
-abbrev pub kronrodSum : (Float → Float) → Float → Float → Float
-kronrodSum f c h = turns 7 (λ i s. s ⊕ kronrod ‼ i ⊗ pairOf f c h i) (kronrod ‼ 7 ⊗ f c)
-
--- Gauss's sum: the middle, then the pairs 1, 3 and 5
-abbrev pub gaussSum : (Float → Float) → Float → Float → Float
-gaussSum f c h = turns 3 (λ j s. s ⊕ gauss ‼ j ⊗ pairOf f c h (2 * j + 1)) (gauss ‼ 3 ⊗ f c)
-
--- the middle of an interval
+-- the middle of an interval, and half of its width
 abbrev pub middleOf : Float → Float → Float
 middleOf a b = half ⊗ (a ⊕ b)
 
--- the part from a to b: Kronrod's estimate, and its distance from Gauss's
+abbrev pub halfWidth : Float → Float → Float
+halfWidth a b = half ⊗ (b ⊖ a)
+
+-- the two points of each node, below and above the middle c of an interval of half the width h
+abbrev pub aboutOf : Float → Float → List Float → List Float
+aboutOf c h [] = []
+aboutOf c h (x ∷ xs) = (c ⊖ h ⊗ x) ∷ (c ⊕ h ⊗ x) ∷ aboutOf c h xs
+
+-- where the rule asks the integrand on the interval from a to b: two points a node, and the middle
+abbrev pub pointsOf : Float → Float → List Float
+pointsOf a b = aboutOf (middleOf a b) (halfWidth a b) nodes ++ (middleOf a b ∷ [])
+
+-- how many these are: as many on every interval (proofs/RuleLaws.antt)
+abbrev pub ruleSize : ℕ
+ruleSize = length (pointsOf plusZero one)
+
+-- of the integrand's values fs at the points of an interval: both at node i, and that at the middle
+abbrev pub pairAt : List Float → ℕ → Float
+pairAt fs i = fs ‼ (2 * i) ⊕ fs ‼ (2 * i + 1)
+
+abbrev pub middleAt : List Float → Float
+middleAt fs = fs ‼ (2 * length nodes)
+
+-- Kronrod's sum: the middle, then the pairs 0 to 6
+abbrev pub kronrodSum : List Float → Float
+kronrodSum fs = turns 7 (λ i s. s ⊕ kronrod ‼ i ⊗ pairAt fs i) (kronrod ‼ 7 ⊗ middleAt fs)
+
+-- Gauss's sum: the middle, then the pairs 1, 3 and 5
+abbrev pub gaussSum : List Float → Float
+gaussSum fs = turns 3 (λ j s. s ⊕ gauss ‼ j ⊗ pairAt fs (2 * j + 1)) (gauss ‼ 3 ⊗ middleAt fs)
+
+-- the part from a to b, of these values: Kronrod's estimate, and its distance from Gauss's
+abbrev pub ruleOf : Float → Float → List Float → Part
+ruleOf a b fs =
+    let h = halfWidth a b in
+    record { lo = a; hi = b; value = kronrodSum fs ⊗ h; error = absOf ((kronrodSum fs ⊖ gaussSum fs) ⊗ h) }
+
+-- the part from a to b by the integrand f
 unfoldable pub gk15Of : (Float → Float) → Float → Float → Part
 unfolding turns
-gk15Of f a b =
-    let c = middleOf a b in
-    let h = half ⊗ (b ⊖ a) in
-    record { lo = a; hi = b; value = kronrodSum f c h ⊗ h; error = absOf ((kronrodSum f c h ⊖ gaussSum f c h) ⊗ h) }
+gk15Of f a b = ruleOf a b (map f (pointsOf a b))

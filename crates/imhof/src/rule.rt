@@ -1,18 +1,21 @@
 // The Gauss-Kronrod rule of 7 and 15 points.
 ghost use mathlib.Core.Path.{_≡_};
+ghost use mathlib.Core.List.{[], _∷_, _++_};
+ghost use lib.ListN.{length};
+ghost use Rattle.elementary.specs.Points.{points};
 ghost use Rattle.imhof.specs.Integrand.{integrandOf};
 ghost use Rattle.imhof.specs.Parts.{leftHalf, rightHalf};
-ghost use Rattle.imhof.specs.Rule.{gk15Of};
+ghost use Rattle.imhof.specs.Rule.{gk15Of, middleOf, pointsOf, ruleOf};
 use super::Part;
-use super::integrand::integrand;
+use super::integrand::integrands;
 
 pub struct Halves {
     pub left: Part,
     pub right: Part,
 }
 
-// Nodes on [0, 1], from the outermost to 0.
-const GK_X: [f64; 8] = [
+// Nodes on (0, 1], from the outermost in; the last node is 0, the middle.
+const GK_X: [f64; 7] = [
     0.991_455_371_120_812_6,
     0.949_107_912_342_758_5,
     0.864_864_423_359_769_1,
@@ -20,7 +23,6 @@ const GK_X: [f64; 8] = [
     0.586_087_235_467_691_1,
     0.405_845_151_377_397_2,
     0.207_784_955_007_898_5,
-    0.0,
 ];
 // Kronrod's weights of all nodes.
 const GK_WK: [f64; 8] = [
@@ -41,18 +43,51 @@ const GK_WG: [f64; 4] = [
     0.417_959_183_673_469_4,
 ];
 
-// The part from a to b: Kronrod's estimate, and its distance from Gauss's. 15 evaluations of the integrand.
-pub fn gk15(weights: &[f64], a: f64, b: f64) -> Part
-    ensures { λ r. ⌜ r ≡ gk15Of (integrandOf (now (weights .entry))) a b ⌝ }
+// Where the rule asks the integrand between a and b: below and above the middle for each node, then the middle; and the middle once more, so that the points are
+// an even number. That last place is no point of the rule: no sum reads it, and no count has it.
+fn laid(a: f64, b: f64) -> [f64; 16]
+    ensures { λ r. ⌜ r ≡ pointsOf a b ++ (middleOf a b ∷ []) ⌝ }
 {
     let c = 0.5 * (a + b);
     let h = 0.5 * (b - a);
-    let fc = integrand(weights, c);
-    let mut k = GK_WK[7] * fc;
-    let mut g = GK_WG[3] * fc;
+    let x = GK_X;
+    let x0 = h * x[0];
+    let x1 = h * x[1];
+    let x2 = h * x[2];
+    let x3 = h * x[3];
+    let x4 = h * x[4];
+    let x5 = h * x[5];
+    let x6 = h * x[6];
+    [
+        c - x0,
+        c + x0,
+        c - x1,
+        c + x1,
+        c - x2,
+        c + x2,
+        c - x3,
+        c + x3,
+        c - x4,
+        c + x4,
+        c - x5,
+        c + x5,
+        c - x6,
+        c + x6,
+        c,
+        c,
+    ]
+}
+
+// The part from a to b, of the integrand's values where `laid` has it asked: Kronrod's estimate, and its distance from Gauss's.
+fn gathered(f: &[f64], a: f64, b: f64) -> Part
+    requires { ⌜ length (now f) ≡ 16 ⌝ }
+    ensures { λ r. ⌜ r ≡ ruleOf a b (now (f .entry)) ⌝ }
+{
+    let h = 0.5 * (b - a);
+    let mut k = GK_WK[7] * f[14];
+    let mut g = GK_WG[3] * f[14];
     for i in 0..7usize {
-        let x = h * GK_X[i];
-        let pair = integrand(weights, c - x) + integrand(weights, c + x);
+        let pair = f[2 * i] + f[2 * i + 1];
         k = k + GK_WK[i] * pair;
         if i % 2 == 1 {
             g = g + GK_WG[i / 2] * pair;
@@ -66,13 +101,32 @@ pub fn gk15(weights: &[f64], a: f64, b: f64) -> Part
     }
 }
 
+// The part from a to b, 15 evaluations of the integrand. The table is lent.
+fn gk15_by(ps: &[f64], weights: &[f64], a: f64, b: f64) -> Part
+    requires { ⌜ now ps ≡ points ⌝ }
+    ensures { λ r. ⌜ r ≡ gk15Of (integrandOf (now (weights .entry))) a b ⌝ }
+{
+    let mut f = laid(a, b);
+    integrands(ps, weights, &mut f);
+    gathered(&f, a, b)
+}
+
+// The part from a to b: Kronrod's estimate, and its distance from Gauss's.
+pub fn gk15(weights: &[f64], a: f64, b: f64) -> Part
+    ensures { λ r. ⌜ r ≡ gk15Of (integrandOf (now (weights .entry))) a b ⌝ }
+{
+    let points = elementary::points::points();
+    gk15_by(&points, weights, a, b)
+}
+
 // The two halves of a part. 30 evaluations.
 pub fn bisect(weights: &[f64], p: Part) -> Halves
     ensures { λ r. ⌜ (r .left ≡ leftHalf (integrandOf (now (weights .entry))) p) × (r .right ≡ rightHalf (integrandOf (now (weights .entry))) p) ⌝ }
 {
+    let points = elementary::points::points();
     let mid = 0.5 * (p.lo + p.hi);
     Halves {
-        left: gk15(weights, p.lo, mid),
-        right: gk15(weights, mid, p.hi),
+        left: gk15_by(&points, weights, p.lo, mid),
+        right: gk15_by(&points, weights, mid, p.hi),
     }
 }

@@ -1,22 +1,29 @@
-use borrow.Author.Tests.{eq-eqb, ne-eqb}
+use Prim.Native.Nat.{_%_, _<_, _≤_}
+use native.Mathlib.Omega.{arith}
+use mathlib.Core.Logic.{⊎-elim}
+use mathlib.Core.Path.{_≡_, _∙_}
 use borrow.Author.Needs.{needs}
 use Rattle.elementary.proofs.sine.quarter_turns.Statement.{statement}
 use Rattle.elementary.proofs.sine.quarter_turns.Tie as tie
 
 returns : tie.Need-returns
-returns c = rw (eq-eqb _ 0 (c .before .if1 .taken), c .sin-kernel .ensures)
+returns c =
+    let q = c .before .before .before .before .args .q in
+    let few : q < 2 = c .if2 .taken in
+    ⊎-elim
+    (λ w. let even : q % 2 ≡ 0 = w .0 .taken in let none : q ≡ 0 = omega arith in w .1 ∙ rw (none, c .before .before .before .sin-kernel .ensures))
+    (λ w. let odd : q % 2 ≡ 0 → ⊥ = w .0 .left in let one : q ≡ 1 = omega arith in w .1 ∙ rw (one, c .before .before .cos-kernel .ensures))
+    (c .before .if1 .came)
 
 returns-2 : tie.Need-returns-2
-returns-2 c = rw (ne-eqb _ 0 (c .before .before .if1 .left), eq-eqb _ 1 (c .before .if2 .taken), c .cos-kernel .ensures)
-
-returns-3 : tie.Need-returns-3
-returns-3 c = rw (ne-eqb _ 0 (c .before .before .before .if1 .left), ne-eqb _ 1 (c .before .before .if2 .left), eq-eqb _ 2 (c .before .if3 .taken), c .sin-kernel2 .ensures)
-
-returns-4 : tie.Need-returns-4
-returns-4 c = rw (ne-eqb _ 0 (c .before .before .before .if1 .left), ne-eqb _ 1 (c .before .before .if2 .left), ne-eqb _ 2 (c .before .if3 .left), c .cos-kernel2 .ensures)
+returns-2 c =
+    let q = c .before .before .before .before .args .q in
+    let some : 2 ≤ q = c .if2 .left in
+    let four : q < 4 = c .before .before .before .before .pre in
+    ⊎-elim
+    (λ w. let even : q % 2 ≡ 0 = w .0 .taken in let two : q ≡ 2 = omega arith in rw (w .1, two, c .before .before .before .sin-kernel .ensures))
+    (λ w. let odd : q % 2 ≡ 0 → ⊥ = w .0 .left in let three : q ≡ 3 = omega arith in rw (w .1, three, c .before .before .cos-kernel .ensures))
+    (c .before .if1 .came)
 
 pub quarter-turns-spec : {M : Type 1} → statement M
-quarter-turns-spec =
-    tie.close
-    (tie.spec (λ c κs. search needs) returns (λ c κs. search needs) returns-2 (λ c κs. search needs) returns-3
-    (λ c κs. search needs) returns-4)
+quarter-turns-spec = tie.close (tie.spec (λ c κs. search needs) (λ c κs. search needs) returns returns-2)

@@ -1,0 +1,15 @@
+use mathlib.Core.Path.{_∙_}
+use Rattle.imhof.specs.Integrand.{integrandOf}
+use Rattle.imhof.proofs.RuleLaws.{rule-reads}
+use borrow.Author.Needs.{needs}
+use Rattle.imhof.proofs.rule.gk15_by.Statement.{statement}
+use Rattle.imhof.proofs.rule.gk15_by.Tie as tie
+
+returns : tie.Need-returns
+returns c = c .gathered .ensures ∙ rw (c .before .before .before .integrands .ensures, c .before .before .before .before .before .laid .ensures) (rule-reads (integrandOf (c .before .before .before .before .before .before .before .before .args .weights .now)) (c .before .before .before .before .before .before .before .before .args .a) (c .before .before .before .before .before .before .before .before .args .b))
+
+pub gk15-by-spec : {M : Type 1} → statement M
+gk15-by-spec =
+    tie.close
+    (tie.spec (λ c κs. search needs) (λ c. search needs) (λ c κs. search needs) (λ c. search needs)
+    (λ c κs. search needs) returns)
