@@ -5,7 +5,7 @@
 # Needs the kit's rt, python3 and what setup.sh installs (it is run where target/speed is not ready). Writes below target/ only.
 set -eu
 # With 64 weights and more; with fewer the two exponentials and the sine of an evaluation are much of it. Without the pairs it is some 60 % above.
-bound=48
+bound=44
 calls=${1:-40}
 case $calls in '' | *[!0-9]* | 0) echo "usage: integral.sh [CALLS]" >&2; exit 2 ;; esac
 cd "$(dirname "$0")/../.."
