@@ -1,57 +1,23 @@
 -- Sums of finite numbers, and what is made of them here, are no NaN: a sum can reach an infinity, and an infinity plus a finite number is that infinity. A number that is no NaN, clamped,
 -- lies in [0, 1]. Assumes nothing.
-use mathlib.Core.Path.{_≡_, refl, sym, ap, _∙_, subst}
-use mathlib.Core.Logic.{_⊎_, inl, inr, ⊎-elim}
-use mathlib.Core.Bool.{Bool, true, false, not, _&&_, _||_, cond, Bool·beq, true≢false}
-use Prim.Native.Nat.{ℕ, zero, suc, _+_, _-_, _*_, _^_, _≤_, _<_}
+use mathlib.Core.Path.{_≡_, refl, sym}
+use mathlib.Core.Logic.{_⊎_, ⊎-elim}
+use mathlib.Core.Bool.{Bool, true, false, not, _&&_, _||_, cond, true≢false}
+use Prim.Native.Nat.{ℕ, zero, suc, _+_, _-_, _*_, _<_}
 use native.Mathlib.Nat.{eq-or-lt-of-le, eq-zero-or-pos}
 use native.Mathlib.Omega.{arith}
 use lib.IntN.{ℤ, negsuc}
 use lib.Dec.{ltb, eqb}
 use borrow.Author.Tests.{ltb-false, lt-ltb, eq-eqb}
-use lib.Ieee.{Float, nan, inf, fin, Format, binary64, prec, emax, low, up, down, units, odd, round, sum, add, sub, neg, div, lt, eq, le, isNan, below, level, unlike, ofBits, ofFields}
-use lib.Ieee.Fits.{round-is}
-use lib.Ieee.Order.{kept, drop}
+use lib.Ieee.{Float, nan, inf, fin, binary64, up, down, sum, add, sub, neg, div, lt, eq, le, isNan, below, level, unlike, ofBits}
 use lib.Ieee.Scale.{finite}
-use Rattle.floats.specs.Words.{_⊕_, _⊖_, _⊘_, plusZero, minusZero, one}
+use Rattle.floats.specs.Words.{_⊖_, _⊘_, plusZero, one}
 use Rattle.floats.specs.Sums.{sumOf}
+use Rattle.elementary.proofs.Numbers.{round-number, sum-number, add-number}
 use Rattle.imhof.specs.Range.{half}
 use Rattle.imhof.specs.Imhof.{clampOf, pi}
 
 -- ---- no operation makes a NaN of what it is given here
-
-odd-number : (d : ℕ) (s : Bool) (q k l : ℕ) → isNan (odd d s q k l) ≡ false
-unfolding odd isNan
-odd-number d s zero k l = refl
-odd-number d s (suc q) k l = refl
-
-either : (b : Bool) (x y : Float) → isNan x ≡ false → isNan y ≡ false → isNan (cond b x y) ≡ false
-either true x y h k = h
-either false x y h k = k
-
-units-number : (f : Format) (s : Bool) (q k : ℕ) → isNan (units f s q k) ≡ false
-unfolding units isNan
-units-number f s q k = either (ltb (q * 2 ^ k) (2 ^ (low f + suc (emax f)))) (odd (suc (prec f)) s q k (low f)) (inf s) (odd-number (suc (prec f)) s q k (low f)) refl
-
-round-number : (f : Format) (s : Bool) (a c : ℕ) → isNan (round f s a c) ≡ false
-round-number f s a c = let n : ℕ = a * 2 ^ low f in ap isNan (round-is f s a c) ∙ units-number f s (kept (prec f) n c) (drop (prec f) n c)
-
-sum-number : (f : Format) (s : Bool) (a : ℕ) (t : Bool) (b c : ℕ) → isNan (sum f s a t b c) ≡ false
-unfolding sum
-sum-number f s a t b c =
-    either (Bool·beq s t) (round f s (a + b) c) (cond (ltb a b) (round f t (b - a) c) (round f (s && ltb b a) (a - b) c)) (round-number f s (a + b) c)
-    (either (ltb a b) (round f t (b - a) c) (round f (s && ltb b a) (a - b) c) (round-number f t (b - a) c) (round-number f (s && ltb b a) (a - b) c))
-
--- a finite number added, on either side
-add-number : (x y : Float) → isNan x ≡ false → finite y ≡ true → isNan (x ⊕ y) ≡ false
-unfolding add isNan
-add-number nan y h k = absurd (true≢false h)
-add-number (inf s) nan h k = absurd (true≢false (sym k))
-add-number (inf s) (inf t) h k = absurd (true≢false (sym k))
-add-number (inf s) (fin t n d) h k = refl
-add-number (fin s m e) nan h k = absurd (true≢false (sym k))
-add-number (fin s m e) (inf t) h k = absurd (true≢false (sym k))
-add-number (fin s m e) (fin t n d) h k = sum-number binary64 s (m * up e * down d) t (n * up d * down e) (down e * down d)
 
 sub-number : (x y : Float) → finite x ≡ true → isNan y ≡ false → isNan (x ⊖ y) ≡ false
 unfolding sub add neg isNan
