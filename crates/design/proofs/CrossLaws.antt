@@ -9,9 +9,10 @@ use borrow.Author.Tests.{ltb-true}
 use Rattle.floats.specs.Words.{plusZero}
 use Rattle.floats.specs.Sums.{sumProducts}
 use Rattle.floats.proofs.ListLaws.{sum-same}
+use Rattle.floats.proofs.TableLaws.{table-same}
 use Rattle.design.specs.Matrix.{row, matrix, zeroRow}
 use Rattle.design.specs.Law.{crossOf, squaresOf}
-use Rattle.design.proofs.DifferenceLaws.{Differences, table-same}
+use Rattle.design.proofs.DifferenceLaws.{Differences}
 
 -- what is guarded by i < k has only to agree there
 guarded : {A : Type 0} (i k : ℕ) (a b z : A) → (i < k → a ≡ b) → cond (ltb i k) a z ≡ cond (ltb i k) b z

@@ -3,7 +3,7 @@ use mathlib.Core.Path.{_≡_, refl, _∙_}
 use mathlib.Core.Bool.{Bool, true, false, cond}
 use mathlib.Core.List.{List, _++_}
 use mathlib.Core.Logic.{⊎-elim}
-use Prim.Native.Nat.{ℕ, zero, suc, _+_, _-_, _*_, _≤_, _<_}
+use Prim.Native.Nat.{ℕ, _+_, _-_, _*_, _≤_, _<_}
 use native.Mathlib.Nat.{eq-or-lt-of-le}
 use native.Mathlib.Omega.{arith}
 use lib.Dec.{ltb}
@@ -14,7 +14,7 @@ use borrow.Author.Tests.{ltb-true}
 use Rattle.floats.specs.Words.{_⊕_, _⊖_, _‼_}
 use Rattle.floats.specs.Tables.{table, part, withPart}
 use Rattle.floats.proofs.ListLaws.{row-in, length-part, getD-part}
-use Rattle.floats.proofs.TableLaws.{length-table, getD-table}
+use Rattle.floats.proofs.TableLaws.{length-table, getD-table, table-same}
 use Rattle.design.specs.Difference.{differenceBefore, differenceAt}
 use Rattle.design.specs.Law.{columnAt, differenceOf}
 
@@ -28,12 +28,6 @@ module _ (v w : ℕ → Float) (n : ℕ) (same : (t : ℕ) → t < n → v t ≡
       go : (b : Bool) → ltb (t + 1) n ≡ b → cond b (differenceBefore v t ⊕ (v t ⊖ v (t + 1))) (differenceBefore v t) ≡ cond b (differenceBefore w t ⊕ (w t ⊖ w (t + 1))) (differenceBefore w t)
       go true e = rw (before-same t l, same t l, same (t + 1) (ltb-true (t + 1) n e))
       go false e = before-same t l
-
--- tables of entries that agree
-pub table-same : {A : Type 0} (f g : ℕ → A) (n : ℕ) → ((t : ℕ) → t < n → f t ≡ g t) → table f n ≡ table g n
-unfolding table
-table-same f g zero h = refl
-table-same f g (suc n) h = rw (table-same f g n (λ t l. h t (omega arith)), h n (omega arith))
 
 -- the differences of a part of a run are those of its numbers where they stand
 pub difference-part : (x : List Float) (from n : ℕ) → from + n ≤ length x → table (differenceAt (λ t. part from (from + n) x ‼ t) (length (part from (from + n) x))) (length (part from (from + n) x)) ≡ table (differenceAt (λ t. x ‼ (from + t)) n) n

@@ -6,5 +6,4 @@ pub mod Bounds
 pub mod Edges
 pub mod Beyond
 pub mod Outcomes
-pub mod Numbers
 pub mod PlaceLaws

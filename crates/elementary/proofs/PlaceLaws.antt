@@ -5,9 +5,9 @@ use lib.Dec.{T}
 use lib.Ieee.{Float, nan, inf, fin, lt, isNan, ofBits}
 use Rattle.floats.specs.Words.{_⊕_}
 use lib.ListN.{length}
+use Rattle.floats.proofs.Numbers.{add-number}
 use Rattle.elementary.specs.Near.{least, reach}
 use Rattle.elementary.specs.Points.{points}
-use Rattle.elementary.proofs.Numbers.{add-number}
 
 -- three numbers a row
 pub length-points : length points ≡ 384

@@ -23,9 +23,9 @@ use Rattle.floats.specs.Matrix.{entry, Symmetric, halfEntry, whole, half
 use Rattle.floats.specs.declared.search.Found.{Found}
 use Rattle.floats.specs.declared.search.Found.the-variants.{At, Nothing}
 use Rattle.floats.proofs.FirstLaws.{none-at, found-holds}
-use Rattle.floats.proofs.TableLaws.{length-table, getD-table}
+use Rattle.floats.proofs.TableLaws.{length-table, getD-table, table-same}
 use Rattle.floats.proofs.ListLaws.{length-withPart, length-part, getD-part}
-use Rattle.floats.proofs.MatrixLaws.{lt-or-le, table-same, above, part-before, part-inside, part-after, length-square, entry-square, square-of, square-same, length-symmetric, entry-symmetric, larger-in, smaller-in}
+use Rattle.floats.proofs.MatrixLaws.{lt-or-le, above, part-before, part-inside, part-after, length-square, entry-square, square-of, square-same, length-symmetric, entry-symmetric, larger-in, smaller-in}
 
 -- ---- where a row begins
 

@@ -8,4 +8,7 @@ pub mod TotalOrder
 pub mod RowLaws
 pub mod MatrixLaws
 pub mod Commutes
+pub mod Negatives
+pub mod PlusLaws
+pub mod Numbers
 pub mod HalfLaws

@@ -40,12 +40,6 @@ module _ (l ys : List Float) {a e : ℕ} (h : a ≤ e) (k : e ≤ length l) (m :
       ∙ getD-append-add ys (drop (e - a) (drop a l)) (p - e) nan ∙ getD-drop (e - a) (drop a l) (p - e) nan ∙ getD-drop a l ((e - a) + (p - e)) nan
       ∙ ap (λ (z : ℕ). l ‼ z) r
 
--- ---- tables that agree
-pub table-same : (f g : ℕ → Float) (k : ℕ) → ((p : ℕ) → p < k → f p ≡ g p) → table f k ≡ table g k
-unfolding table
-table-same f g zero h = refl
-table-same f g (suc k) h = rw (table-same f g k (λ p l. h p (omega arith)), h k (omega arith))
-
 -- ---- a matrix by its entries
 
 pub above : (n : ℕ) {p : ℕ} → p < n * n → 0 < n

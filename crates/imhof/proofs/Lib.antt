@@ -1,5 +1,3 @@
-pub mod ProductLaws
-pub mod LaneLaws
 pub mod RuleLaws
 pub mod WeightLaws
 pub mod RoomLaws

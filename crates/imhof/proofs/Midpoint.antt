@@ -57,10 +57,6 @@ test-of true a true b h = ⊎-elim (λ e. rw (eq-eqb a b (sym e)) (or-true (ltb 
 test-of true a false b h = ⊎-elim (λ z. let p : a ≡ 0 = omega arith in let q : b ≡ 0 = omega arith in rw (p, q)) (λ l. rw (lt-ltb 0 (a + b) l)) (eq-zero-or-pos (a + b))
 test-of false a true b h = let p : a ≡ 0 = omega arith in let q : b ≡ 0 = omega arith in rw (p, q)
 
-pub le-self : (s : Bool) (m : ℕ) (e : ℤ) → le (fin s m e) (fin s m e) ≡ true
-unfolding le
-le-self s m e = test-of s (m * up e * down e) s (m * up e * down e) (omega arith)
-
 -- the order of a / c and b / c is that of x / d and y / d where they are equal
 module _ (x y a b c d : ℕ) (C : 0 < c) (D : 0 < d) (p : x * c ≡ a * d) (q : y * c ≡ b * d) where
   le-scaled : x ≤ y → a ≤ b

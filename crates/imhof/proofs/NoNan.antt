@@ -13,8 +13,8 @@ use lib.Ieee.{Float, nan, inf, fin, binary64, up, down, sum, add, sub, neg, div,
 use lib.Ieee.Scale.{finite}
 use Rattle.floats.specs.Words.{_⊖_, _⊘_, plusZero, one}
 use Rattle.floats.specs.Sums.{sumOf}
-use Rattle.elementary.proofs.Numbers.{round-number, sum-number, add-number}
-use Rattle.imhof.specs.Range.{half}
+use Rattle.floats.proofs.Numbers.{round-number, sum-number, add-number}
+use Rattle.elementary.specs.Patterns.{half}
 use Rattle.imhof.specs.Imhof.{clampOf, pi}
 
 -- ---- no operation makes a NaN of what it is given here

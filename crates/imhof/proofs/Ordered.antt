@@ -16,12 +16,13 @@ use Rattle.floats.specs.Words.{_⊕_, _⊗_, float}
 use Rattle.floats.specs.Signs.{absOf}
 use Rattle.floats.specs.declared.tally.Tally.{Tally}
 use Rattle.imhof.specs.declared.Part.{Part}
-use Rattle.imhof.specs.Range.{half}
+use Rattle.elementary.specs.Patterns.{half}
 use Rattle.imhof.specs.Rule.{gk15Of, middleOf}
 use Rattle.imhof.specs.Parts.{partAt, worstOf, leftHalf, rightHalf, finitePart, stageAfter}
 use Rattle.imhof.proofs.StageLaws.{split, finiteHalves, length-split}
 use Rattle.imhof.proofs.EveryStage.{All, all-map, all-at, all-bisected, worst-inside, every-stage}
-use Rattle.imhof.proofs.Midpoint.{Small, le-self, middle-between, le-through, small-through}
+use Rattle.floats.proofs.PlusLaws.{le-self}
+use Rattle.imhof.proofs.Midpoint.{Small, middle-between, le-through, small-through}
 
 -- 2 ^ 1023
 abbrev pub limit : Float

@@ -18,7 +18,8 @@ use Rattle.imhof.specs.declared.Estimate.{Estimate}
 use Rattle.imhof.specs.declared.Exact.{Exact}
 use Rattle.imhof.specs.declared.Exact.the-variants.{NoWeight, NotFinite, Value}
 use Rattle.imhof.specs.Weights.{weightsOf, Signs, none, above, below, mixed, signsOf}
-use Rattle.imhof.specs.Range.{half, lowEnd, highEnd}
+use Rattle.elementary.specs.Patterns.{half}
+use Rattle.imhof.specs.Range.{lowEnd, highEnd}
 use Rattle.imhof.specs.Integrand.{integrandOf}
 use Rattle.imhof.specs.Parts.{Stage, stage, stageAfter, valuesOf, errorsOf, tolerance}
 

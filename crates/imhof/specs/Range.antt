@@ -7,15 +7,10 @@ use lib.Ieee.{Float, binary64, ofInt}
 use Rattle.floats.specs.Words.{_⊖_, _⊗_, _⊘_, _‼_, float, two}
 use Rattle.floats.specs.Signs.{absOf}
 use Rattle.floats.specs.Sums.{sumOf}
+use Rattle.elementary.specs.Patterns.{half}
 use Rattle.elementary.specs.Ln.{lnOf}
 
--- 0.5, 0.25, and 2.5e-12, the part of the integral that each cut may leave out
-abbrev pub half : Float
-half = float 0x3fe0000000000000
-
-abbrev pub quarter : Float
-quarter = float 0x3fd0000000000000
-
+-- 2.5e-12, the part of the integral that each cut may leave out
 abbrev pub cut : Float
 cut = float 0x3d85fd7fe1796495
 

@@ -2,20 +2,20 @@
 -- Numbers are given by their bit patterns, each operation is rounded once (floats' Words). Definitions only. Assumes nothing.
 use Prim.Native.Nat.{ℕ, _+_, _*_}
 use mathlib.Core.List.{List, [], _∷_, _++_, map}
-use lib.ListN.{length}
+use lib.ListN.{length, take}
 use lib.Ieee.{Float}
 use Rattle.floats.specs.Words.{_⊕_, _⊖_, _⊗_, _‼_, float, plusZero, one}
 use Rattle.floats.specs.Signs.{absOf}
 use Rattle.floats.specs.Turns.{turns}
 use Rattle.imhof.specs.declared.Part.{Part}
-use Rattle.imhof.specs.Range.{half}
+use Rattle.elementary.specs.Patterns.{half}
 
--- the nodes above 0 on [0, 1], from the outermost in; the last node of the rule is 0, the middle
+-- the nodes on [0, 1], from the outermost to 0
 abbrev pub nodes : List Float
 nodes =
     map float
     (0x3fefba009d4d09b1 ∷ 0x3fee5f178e7c6229 ∷ 0x3febacf827b9bb3e ∷ 0x3fe7ba9f9be3a1d5 ∷ 0x3fe2c13a049dfa24 ∷ 0x3fd9f95df119fd62 ∷
-    0x3fca98b2892e0c78 ∷ [])
+    0x3fca98b2892e0c78 ∷ 0x0000000000000000 ∷ [])
 
 -- Kronrod's weights of all nodes
 abbrev pub kronrod : List Float
@@ -40,9 +40,9 @@ abbrev pub aboutOf : Float → Float → List Float → List Float
 aboutOf c h [] = []
 aboutOf c h (x ∷ xs) = (c ⊖ h ⊗ x) ∷ (c ⊕ h ⊗ x) ∷ aboutOf c h xs
 
--- where the rule asks the integrand on the interval from a to b: two points a node, and the middle
+-- where the rule asks the integrand on the interval from a to b: two points a node above 0, and the middle, once
 abbrev pub pointsOf : Float → Float → List Float
-pointsOf a b = aboutOf (middleOf a b) (halfWidth a b) nodes ++ (middleOf a b ∷ [])
+pointsOf a b = aboutOf (middleOf a b) (halfWidth a b) (take 7 nodes) ++ (middleOf a b ∷ [])
 
 -- how many these are: as many on every interval (proofs/RuleLaws.antt)
 abbrev pub ruleSize : ℕ
@@ -53,7 +53,7 @@ abbrev pub pairAt : List Float → ℕ → Float
 pairAt fs i = fs ‼ (2 * i) ⊕ fs ‼ (2 * i + 1)
 
 abbrev pub middleAt : List Float → Float
-middleAt fs = fs ‼ (2 * length nodes)
+middleAt fs = fs ‼ (2 * 7)
 
 -- Kronrod's sum: the middle, then the pairs 0 to 6
 abbrev pub kronrodSum : List Float → Float

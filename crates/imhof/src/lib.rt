@@ -12,7 +12,6 @@ ghost use Rattle.imhof.specs.Room.{laidOut};
 use floats::tally::Tally;
 
 pub mod adaptive;
-mod integrand;
 pub mod range;
 mod room;
 pub mod rule;

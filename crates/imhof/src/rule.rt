@@ -7,15 +7,15 @@ ghost use Rattle.imhof.specs.Integrand.{integrandOf};
 ghost use Rattle.imhof.specs.Parts.{leftHalf, rightHalf};
 ghost use Rattle.imhof.specs.Rule.{gk15Of, middleOf, pointsOf, ruleOf};
 use super::Part;
-use super::integrand::integrands;
+use integrand::integrands;
 
 pub struct Halves {
     pub left: Part,
     pub right: Part,
 }
 
-// Nodes on (0, 1], from the outermost in; the last node is 0, the middle.
-const GK_X: [f64; 7] = [
+// Nodes on [0, 1], from the outermost to 0.
+const GK_X: [f64; 8] = [
     0.991_455_371_120_812_6,
     0.949_107_912_342_758_5,
     0.864_864_423_359_769_1,
@@ -23,6 +23,7 @@ const GK_X: [f64; 7] = [
     0.586_087_235_467_691_1,
     0.405_845_151_377_397_2,
     0.207_784_955_007_898_5,
+    0.0,
 ];
 // Kronrod's weights of all nodes.
 const GK_WK: [f64; 8] = [
@@ -43,7 +44,7 @@ const GK_WG: [f64; 4] = [
     0.417_959_183_673_469_4,
 ];
 
-// Where the rule asks the integrand between a and b: below and above the middle for each node, then the middle; and the middle once more, so that the points are
+// Where the rule asks the integrand between a and b: below and above the middle for each node above 0, then the middle; and the middle once more, so that the points are
 // an even number. That last place is no point of the rule: no sum reads it, and no count has it.
 fn laid(a: f64, b: f64) -> [f64; 16]
     ensures { λ r. ⌜ r ≡ pointsOf a b ++ (middleOf a b ∷ []) ⌝ }

@@ -13,8 +13,8 @@ use Rattle.floats.specs.Tables.{table, triangle, half, withPart}
 use Rattle.floats.specs.Matrix.{halfEntry}
 use Rattle.floats.proofs.Commutes.{product-swap}
 use Rattle.floats.proofs.ListLaws.{row-in}
-use Rattle.floats.proofs.TableLaws.{length-table, getD-table}
-use Rattle.floats.proofs.MatrixLaws.{lt-or-le, table-same, part-before, part-inside}
+use Rattle.floats.proofs.TableLaws.{length-table, getD-table, table-same}
+use Rattle.floats.proofs.MatrixLaws.{lt-or-le, part-before, part-inside}
 use Rattle.floats.proofs.HalfLaws.{triangle-apart, triangle-up, half-low, length-half, place-half, half-same, rowsTo, rows-none, rows-all}
 use Rattle.rows.specs.Terms.{Reach, sumFrom}
 use Rattle.rows.proofs.TermLaws.{from-same, sum-from}

@@ -10,8 +10,7 @@ use lib.Ieee.{Float, nan}
 use Rattle.floats.specs.Words.{_‼_}
 use Rattle.floats.specs.Tables.{table, triangle, half, part, withPart}
 use Rattle.floats.proofs.ListLaws.{length-part, getD-part}
-use Rattle.floats.proofs.TableLaws.{length-table, getD-table}
-use Rattle.floats.proofs.MatrixLaws.{table-same}
+use Rattle.floats.proofs.TableLaws.{length-table, getD-table, table-same}
 use Rattle.floats.proofs.HalfLaws.{triangle-more, triangle-apart, half-low, half-of, rowsTo, rows-part}
 
 -- a triangle of one number

@@ -11,9 +11,9 @@ use Rattle.floats.specs.Words.{_‼_}
 use Rattle.floats.specs.Tables.{table, triangle, part, withPart}
 use Rattle.floats.specs.Matrix.{halfEntry}
 use Rattle.floats.proofs.ListLaws.{getD-part}
-use Rattle.floats.proofs.TableLaws.{length-table}
+use Rattle.floats.proofs.TableLaws.{length-table, table-same}
 use Rattle.floats.proofs.RowLaws.{filled, filled-more, length-filled, filled-all}
-use Rattle.floats.proofs.MatrixLaws.{lt-or-le, table-same}
+use Rattle.floats.proofs.MatrixLaws.{lt-or-le}
 use Rattle.floats.proofs.HalfLaws.{triangle-more, triangle-apart, triangle-up, half-low, half-high}
 use Rattle.rows.proofs.TermLaws.{filled-group}
 

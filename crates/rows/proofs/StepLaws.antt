@@ -14,8 +14,7 @@ use Rattle.floats.specs.Sums.{sumOf, sumProducts}
 use Rattle.floats.specs.Tables.{table}
 use Rattle.floats.proofs.ListLaws.{sum-same}
 use Rattle.floats.proofs.RowLaws.{filled, filled-here, filled-more}
-use Rattle.floats.proofs.TableLaws.{length-table, getD-table}
-use Rattle.floats.proofs.MatrixLaws.{table-same}
+use Rattle.floats.proofs.TableLaws.{length-table, getD-table, table-same}
 use Rattle.rows.specs.Terms.{sumFrom, rowStart, ReachRows}
 use Rattle.rows.proofs.TermLaws.{from-more, from-same}
 

@@ -13,8 +13,7 @@ use Rattle.floats.specs.Sums.{sumOf}
 use Rattle.floats.specs.Tables.{table, part, withPart}
 use Rattle.floats.proofs.ListLaws.{getD-part}
 use Rattle.floats.proofs.RowLaws.{filled, filled-more, filled-all}
-use Rattle.floats.proofs.TableLaws.{length-table, getD-table}
-use Rattle.floats.proofs.MatrixLaws.{table-same}
+use Rattle.floats.proofs.TableLaws.{length-table, getD-table, table-same}
 use Rattle.rows.specs.Terms.{Reach, sumFrom}
 
 module _ (x : Float) (f : ℕ → Float) where

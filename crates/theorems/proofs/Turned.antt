@@ -1,18 +1,18 @@
 -- Turning the sign of every residual changes nothing in the result or the rooms, for every input. A rounding does not see the sign; so a difference turns its sign with its
 -- terms or, where it is exactly 0, may keep it, and its square is one either way. Assumes nothing.
-use mathlib.Core.Path.{_≡_, refl, sym, ap, _∙_}
+use mathlib.Core.Path.{_≡_, refl, ap, _∙_}
 use mathlib.Core.Logic.{_⊎_, inl, inr}
-use Prim.Native.Nat.{ℕ, zero, suc, _+_, _-_, _*_, _/_, _%_, _^_, compare}
+use Prim.Native.Nat.{ℕ, zero, suc, _+_, _-_, _*_}
 use mathlib.Core.Bool.{Bool, true, false, not, _&&_, Bool·beq, cond}
 use mathlib.Core.List.{List, [], _∷_}
 use lib.Dec.{ltb}
 use lib.ListN.{length, length-map}
-use lib.Ieee.{Float, nan, inf, fin, Format, binary64, prec, emax, low, up, down, size, nearest, odd, units, round, neg, sum, add, sub, mul}
-use lib.Ieee.Fits.{round-is}
+use lib.Ieee.{Float, nan, inf, fin, binary64, up, down, round, neg, sum, add, sub}
 use lib.Ieee.Scale.{finite}
-use Rattle.floats.specs.Words.{_⊖_, _⊗_, _‼_, squareOf}
+use Rattle.floats.specs.Words.{_⊖_, _‼_, squareOf}
 use Rattle.floats.specs.Sums.{sumOf}
 use Rattle.floats.proofs.ListLaws.{sum-same}
+use Rattle.floats.proofs.Negatives.{round-neg, square-neg}
 use Rattle.autocorrelation.specs.Statistic.{differences, squares}
 use Rattle.design.specs.declared.Alternative.{Alternative}
 use Rattle.dwtest.specs.declared.Outcome.{Outcome}
@@ -28,25 +28,7 @@ at-turned [] t = refl
 at-turned (x ∷ e) zero = refl
 at-turned (x ∷ e) (suc t) = at-turned e t
 
--- ---- a rounding, a sum, a difference and a square, of negatives
-odd-neg : (d : ℕ) (s : Bool) (q k l : ℕ) → odd d (not s) q k l ≡ neg (odd d s q k l)
-unfolding odd neg
-odd-neg d s zero k l = refl
-odd-neg d s (suc q) k l = refl
-
-units-neg : (f : Format) (s : Bool) (q k : ℕ) → units f (not s) q k ≡ neg (units f s q k)
-unfolding units neg
-units-neg f s q k = go (ltb (q * 2 ^ k) (2 ^ (low f + suc (emax f))))
-  where
-    go : (b : Bool) → cond b (odd (suc (prec f)) (not s) q k (low f)) (inf (not s)) ≡ neg (cond b (odd (suc (prec f)) s q k (low f)) (inf s))
-    go true = odd-neg (suc (prec f)) s q k (low f)
-    go false = refl
-
-round-neg : (s : Bool) (a c : ℕ) → round binary64 (not s) a c ≡ neg (round binary64 s a c)
-round-neg s a c =
-    let n = a * 2 ^ 1074 in
-    let k = size (n / c) - 53 in
-    round-is binary64 (not s) a c ∙ units-neg binary64 s (nearest (n / (c * 2 ^ k)) (compare (n % (c * 2 ^ k) * 2) (c * 2 ^ k))) k ∙ sym (ap neg (round-is binary64 s a c))
+-- ---- a sum, a difference and a square, of negatives
 
 -- one is the negative of the other, or both are the same, as where a difference is exactly 0
 abbrev Mirror : Float → Float → Type 0
@@ -61,17 +43,17 @@ less-neg s a b c = go s (ltb a b) (ltb b a)
     go : (s k l : Bool) → Mirror
         (cond k (round binary64 s (b - a) c) (round binary64 (not s && l) (a - b) c))
         (cond k (round binary64 (not s) (b - a) c) (round binary64 (s && l) (a - b) c))
-    go true true l = inl (round-neg false (b - a) c)
-    go false true l = inl (round-neg true (b - a) c)
-    go true false true = inl (round-neg true (a - b) c)
-    go false false true = inl (round-neg false (a - b) c)
+    go true true l = inl (round-neg binary64 false (b - a) c)
+    go false true l = inl (round-neg binary64 true (b - a) c)
+    go true false true = inl (round-neg binary64 true (a - b) c)
+    go false false true = inl (round-neg binary64 false (a - b) c)
     go true false false = inr refl
     go false false false = inr refl
 
 sum-neg : (s : Bool) (a : ℕ) (t : Bool) (b c : ℕ) → Mirror (sum binary64 (not s) a (not t) b c) (sum binary64 s a t b c)
 unfolding sum
-sum-neg true a true b c = inl (round-neg true (a + b) c)
-sum-neg false a false b c = inl (round-neg false (a + b) c)
+sum-neg true a true b c = inl (round-neg binary64 true (a + b) c)
+sum-neg false a false b c = inl (round-neg binary64 false (a + b) c)
 sum-neg true a false b c = less-neg true a b c
 sum-neg false a true b c = less-neg false a b c
 
@@ -94,14 +76,6 @@ add-neg (fin s m e) (fin t n d) = sum-neg s (m * up e * down d) t (n * up d * do
 difference-neg : (x y : Float) → Mirror (neg x ⊖ neg y) (x ⊖ y)
 unfolding sub
 difference-neg x y = add-neg x (neg y)
-
-square-neg : (x : Float) → neg x ⊗ neg x ≡ x ⊗ x
-unfolding mul neg
-square-neg nan = refl
-square-neg (inf true) = refl
-square-neg (inf false) = refl
-square-neg (fin true m e) = refl
-square-neg (fin false m e) = refl
 
 mirror-square : (x y : Float) → Mirror x y → squareOf x ≡ squareOf y
 mirror-square x y (inl h) = ap squareOf h ∙ square-neg y

@@ -15,8 +15,8 @@ use Rattle.floats.specs.Tables.{table, triangle, part, withPart}
 use Rattle.floats.specs.Matrix.{halfEntry, whole}
 use Rattle.floats.proofs.ListLaws.{sum-same, length-part, getD-part}
 use Rattle.floats.proofs.RowLaws.{filled}
-use Rattle.floats.proofs.TableLaws.{length-table, getD-table}
-use Rattle.floats.proofs.MatrixLaws.{lt-or-le, table-same}
+use Rattle.floats.proofs.TableLaws.{length-table, getD-table, table-same}
+use Rattle.floats.proofs.MatrixLaws.{lt-or-le}
 use Rattle.floats.proofs.HalfLaws.{triangle-suc, triangle-apart, half-low, half-swap, entry-whole}
 use Rattle.rows.specs.Terms.{sumFrom, rowStart, ReachRows, ReachCorner}
 use Rattle.rows.proofs.TermLaws.{from-same, sum-group, filled-group}

@@ -6,7 +6,9 @@ use Rattle.imhof.proofs.rule.gk15_by.Statement.{statement}
 use Rattle.imhof.proofs.rule.gk15_by.Tie as tie
 
 returns : tie.Need-returns
-returns c = c .gathered .ensures ∙ rw (c .before .before .before .integrands .ensures, c .before .before .before .before .before .laid .ensures) (rule-reads (integrandOf (c .before .before .before .before .before .before .before .before .args .weights .now)) (c .before .before .before .before .before .before .before .before .args .a) (c .before .before .before .before .before .before .before .before .args .b))
+returns c =
+    let s = c .before .before .before .before .before .before .before .before .args in
+    c .gathered .ensures ∙ rw (c .before .before .before .integrands .ensures, c .before .before .before .before .before .laid .ensures) (rule-reads (integrandOf (s .weights .now)) (s .a) (s .b))
 
 pub gk15-by-spec : {M : Type 1} → statement M
 gk15-by-spec =

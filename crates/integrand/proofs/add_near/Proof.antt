@@ -8,8 +8,8 @@ use Rattle.floats.proofs.RowLaws.{filled, filled-none, filled-here, filled-more
 use mathlib.Core.Bool.{cond}
 use Rattle.elementary.specs.Near.{angleBy, logBy}
 use borrow.Author.Needs.{needs}
-use Rattle.imhof.proofs.integrand.add_near.Statement.{statement}
-use Rattle.imhof.proofs.integrand.add_near.Tie as tie
+use Rattle.integrand.proofs.add_near.Statement.{statement}
+use Rattle.integrand.proofs.add_near.Tie as tie
 
 abbrev Inv-loop : tie.InvT-loop
 Inv-loop ps a minus u angles₀ logs₀ j₀ angles logs j =
@@ -29,13 +29,15 @@ place-requires c κs = c .before .before .before .before .before .before .before
 loop-again : tie.Need-loop-again Inv-loop μ-loop
 loop-again c =
     let l = c .before .before .before .before .before .before .before .before .before .before .before .before .loop in
-    let h : l .j < length (c .before .before .before .before .before .before .before .before .before .before .before .before .before .before .before .before .before .args .angles .now) = search needs in
-    let k : l .j < length (c .before .before .before .before .before .before .before .before .before .before .before .before .before .before .before .before .before .args .logs .now) = search needs in (
+    let s = c .before .before .before .before .before .before .before .before .before .before .before .before .before .before .before .before .before .args in
+    let h : l .j < length (s .angles .now) = search needs in
+    let k : l .j < length (s .logs .now) = search needs in
+    let place = c .before .before .before .before .before .before .before .before .before .place .ensures .1 in (
       omega arith,
       simp length-set (l .inv .1),
       simp length-set (l .inv .2),
-      rw (c .before .before .before .before .signed .ensures, c .before .before .before .before .before .angle-near .ensures, c .before .before .before .before .before .before .before .before .before .place .ensures .1, l .inv .3, filled-here _ _ _ nan h) (filled-more _ _ _ nan h),
-      rw (c .log-near .ensures, c .before .before .before .before .before .before .before .before .before .place .ensures .1, l .inv .4, filled-here _ _ _ nan k) (filled-more _ _ _ nan k),
+      rw (c .before .before .before .before .signed .ensures, c .before .before .before .before .before .angle-near .ensures, place, l .inv .3, filled-here _ _ _ nan h) (filled-more _ _ _ nan h),
+      rw (c .log-near .ensures, place, l .inv .4, filled-here _ _ _ nan k) (filled-more _ _ _ nan k),
     )
 
 returns : tie.Need-returns Inv-loop μ-loop

@@ -15,8 +15,9 @@ ghost use Rattle.elementary.specs.Ln.{ln1pBy};
 ghost use Rattle.elementary.specs.Near.{reach, angleBy, logBy};
 ghost use Rattle.elementary.specs.Points.{points};
 ghost use Rattle.elementary.specs.Sin.{sinOf};
-ghost use Rattle.imhof.specs.Integrand.{integrandOf, addedTo, Upto};
-ghost use Rattle.imhof.specs.Range.{half, quarter};
+ghost use Rattle.integrand.specs.Integrand.{quarter, integrandOf};
+ghost use Rattle.integrand.specs.Lanes.{addedTo, Upto};
+ghost use Rattle.elementary.specs.Patterns.{half};
 use elementary::near;
 
 // r, or -r of a weight below 0.

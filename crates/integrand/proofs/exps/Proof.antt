@@ -7,8 +7,8 @@ use Rattle.floats.specs.Words.{_‼_}
 use Rattle.floats.proofs.RowLaws.{filled, filled-none, filled-here, filled-more, filled-all}
 use Rattle.elementary.specs.Exp.{expOf}
 use borrow.Author.Needs.{needs}
-use Rattle.imhof.proofs.integrand.exps.Statement.{statement}
-use Rattle.imhof.proofs.integrand.exps.Tie as tie
+use Rattle.integrand.proofs.exps.Statement.{statement}
+use Rattle.integrand.proofs.exps.Tie as tie
 
 abbrev Inv-loop : tie.InvT-loop
 Inv-loop x₀ j₀ x j = (j ≤ 16) × (length x ≡ 16) × (x ≡ filled (λ j. expOf (x₀ ‼ j)) j x₀)

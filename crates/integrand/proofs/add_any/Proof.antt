@@ -8,8 +8,8 @@ use Rattle.floats.proofs.RowLaws.{filled, filled-none, filled-here, filled-more
 use Rattle.elementary.specs.Atan.{atanBy}
 use Rattle.elementary.specs.Ln.{ln1pBy}
 use borrow.Author.Needs.{needs}
-use Rattle.imhof.proofs.integrand.add_any.Statement.{statement}
-use Rattle.imhof.proofs.integrand.add_any.Tie as tie
+use Rattle.integrand.proofs.add_any.Statement.{statement}
+use Rattle.integrand.proofs.add_any.Tie as tie
 
 abbrev Inv-loop : tie.InvT-loop
 Inv-loop ps w u angles₀ logs₀ j₀ angles logs j =

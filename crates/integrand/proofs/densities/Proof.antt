@@ -5,14 +5,13 @@ use lib.ListN.{length, length-set}
 use lib.Ieee.{nan, neg}
 use Rattle.floats.specs.Words.{_⊗_, _‼_}
 use Rattle.floats.specs.Tables.{table}
-use Rattle.floats.proofs.TableLaws.{getD-table}
+use Rattle.floats.proofs.TableLaws.{getD-table, table-same}
 use Rattle.floats.proofs.RowLaws.{filled, filled-none, filled-here, filled-more, filled-all}
 use Rattle.elementary.specs.Exp.{expOf}
-use Rattle.imhof.specs.Range.{quarter}
-use Rattle.imhof.proofs.ProductLaws.{table-same}
+use Rattle.integrand.specs.Integrand.{quarter}
 use borrow.Author.Needs.{needs}
-use Rattle.imhof.proofs.integrand.densities.Statement.{statement}
-use Rattle.imhof.proofs.integrand.densities.Tie as tie
+use Rattle.integrand.proofs.densities.Statement.{statement}
+use Rattle.integrand.proofs.densities.Tie as tie
 
 abbrev Inv-loop : tie.InvT-loop
 Inv-loop logs₀ j₀ logs j = (j ≤ 16) × (length logs ≡ 16) × (logs ≡ filled (λ j. neg (quarter ⊗ logs₀ ‼ j)) j logs₀)

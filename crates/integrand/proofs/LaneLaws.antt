@@ -20,10 +20,13 @@ use Rattle.elementary.specs.Exp.{expOf}
 use Rattle.elementary.specs.Sin.{sinOf}
 use Rattle.floats.specs.Sums.{sumOf}
 use Rattle.floats.specs.Tables.{table}
-use Rattle.floats.proofs.TableLaws.{getD-table}
-use Rattle.imhof.specs.Range.{half, quarter}
-use Rattle.imhof.specs.Integrand.{integrandOf, addedTo, Upto}
-use Rattle.imhof.proofs.ProductLaws.{neg-neg, minus-neg, product-neg, square-neg, product-plus, above-plus, below-largest, square-from, neg-minus, above-number, up-to, up-to-self, not-below, far-nan, table-same, map-table, table-run}
+use Rattle.floats.proofs.TableLaws.{getD-table, table-same, map-table, table-run}
+use Rattle.elementary.specs.Patterns.{half}
+use Rattle.integrand.specs.Integrand.{quarter, integrandOf}
+use Rattle.integrand.specs.Lanes.{addedTo, Upto}
+use Rattle.floats.proofs.Negatives.{neg-neg, minus-neg, product-neg, square-neg, product-plus}
+use Rattle.floats.proofs.PlusLaws.{above-plus, above-number, up-to, up-to-self, not-below}
+use Rattle.integrand.proofs.GrowthLaws.{below-largest, square-from, neg-minus, far-nan}
 
 -- each of the first j numbers of a run is above 0 and at most r
 abbrev pub UptoBy : List Float → ℕ → Float → Type 0

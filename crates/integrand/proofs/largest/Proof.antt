@@ -6,12 +6,12 @@ use mathlib.Core.Bool.{true, false}
 use mathlib.Core.Logic.{inl, inr, ⊎-elim}
 use Rattle.floats.specs.Words.{_‼_, plusZero}
 use Rattle.floats.specs.Signs.{minus}
-use Rattle.imhof.proofs.ProductLaws.{above-plus, above-number}
-use Rattle.imhof.proofs.LaneLaws.{UptoBy, upto-more, upto-same}
+use Rattle.floats.proofs.PlusLaws.{above-plus, above-number}
+use Rattle.integrand.proofs.LaneLaws.{UptoBy, upto-more, upto-same}
 use borrow.Author.Needs.{needs}
 use borrow.Author.Tests.{not-false}
-use Rattle.imhof.proofs.integrand.largest.Statement.{statement}
-use Rattle.imhof.proofs.integrand.largest.Tie as tie
+use Rattle.integrand.proofs.largest.Statement.{statement}
+use Rattle.integrand.proofs.largest.Tie as tie
 
 abbrev Inv-loop : tie.InvT-loop
 Inv-loop u most₀ j₀ most j =

@@ -6,10 +6,10 @@ use lib.Ieee.{nan}
 use Rattle.floats.specs.Words.{_⊗_, _‼_}
 use Rattle.floats.proofs.RowLaws.{filled, filled-none, filled-more, filled-all}
 use Rattle.elementary.specs.Sin.{sinOf}
-use Rattle.imhof.specs.Range.{half}
+use Rattle.elementary.specs.Patterns.{half}
 use borrow.Author.Needs.{needs}
-use Rattle.imhof.proofs.integrand.close.Statement.{statement}
-use Rattle.imhof.proofs.integrand.close.Tie as tie
+use Rattle.integrand.proofs.close.Statement.{statement}
+use Rattle.integrand.proofs.close.Tie as tie
 
 abbrev Inv-loop : tie.InvT-loop
 Inv-loop angles densities s₀ j₀ s j = (j ≤ 16) × (length s ≡ 16) × (s ≡ filled (λ j. sinOf (half ⊗ angles ‼ j) ⊗ densities ‼ j) j s₀)

@@ -1,0 +1,2 @@
+pub mod Integrand
+pub mod Lanes
