@@ -1,7 +1,7 @@
 -- An accepted statistic is finite and not negative, whatever the sizes and however many residuals there are. Both sums are finite, so only a small divisor could
 -- make the quotient overflow. But a sum of squares below 2^j has no term of 2^j or more, so its residuals are small, so are their differences, and a sum of
 -- squared differences up to 2^b stays up to 2^(b + 54) (Powers.antt). Assumes nothing.
-use mathlib.Core.Path.{_≡_, refl, sym, ap, _∙_, subst}
+use mathlib.Core.Path.{_≡_, refl, sym, _∙_, subst}
 use mathlib.Core.Logic.{_⊎_, inl, inr, ⊎-elim}
 use Prim.Native.Nat.{ℕ, zero, suc, _+_, _-_, _*_, _^_, _≤_, _<_, zero-le}
 use native.Mathlib.Nat.{not-suc-le-zero, le-of-suc-le-suc, not-le-of-lt, le-of-lt, eq-zero-or-pos, add-le-add, le-refl, le-trans, le-of-eq, le-step, le-add-right, le-add-left, lt-of-le-of-lt, eq-or-lt-of-le, zero-mul, mul-assoc, mul-le-mul, mul-le-mul-right, mul-le-mul-left, mul-pos}
@@ -12,12 +12,13 @@ use borrow.Author.Tests.{le-ltb}
 use lib.Dec.{T, ltb, leb, ltb→lt, nltb→le, leb→le, nleb→lt, lit≤, lit<}
 use lib.Pow.{pow-pos, pow-mono}
 use lib.IntN.{natAbs, _-ℤ_}
-use lib.Ieee.{Float, nan, inf, fin, binary64, up, down, isNan, round, units, odd, neg, add, mul, eq, ofBits}
+use lib.Ieee.{Float, nan, inf, fin, binary64, up, isNan, round, units, neg, add, mul, eq, ofBits}
 use lib.Ieee.Fits.{round-is, down-pos, add-fits}
 use lib.Ieee.Order.{drop, kept}
 use lib.Ieee.Scale.{grid, finite}
 use Rattle.floats.specs.Words.{_⊕_, _⊖_, _⊗_, _⊘_, _‼_, minusZero, plusZero, squareOf}
 use Rattle.floats.specs.Sums.{sumOf}
+use Rattle.floats.proofs.Numbers.{round-number}
 use Rattle.autocorrelation.specs.Bound.{exact, exactDifference}
 use Rattle.autocorrelation.proofs.Rounding.{Valued, round-units}
 use Rattle.autocorrelation.proofs.Units.{plus-is, start-is, square-is, quotient-is, Number, difference-is, apart-is, held-rounds, size-is, none-is}
@@ -142,7 +143,7 @@ units-above m nan g p v = absurd v
 units-above m (inf s) g p v = absurd v
 units-above m (fin s k e) g p v = le-trans (p .2) (le-of-eq (sym (size-is (fin s k e) false (p .0) (p .1)) ∙ size-is (fin s k e) false g v))
 
--- a square is not negative, and a difference of numbers is no NaN
+-- a square is not negative
 square-positive : (x : Float) → isNan x ≡ false → Above 0 (x ⊗ x)
 unfolding mul isNan
 square-positive nan h = absurd (true≢false h)
@@ -150,14 +151,6 @@ square-positive (inf true) h = refl
 square-positive (inf false) h = refl
 square-positive (fin true m e) h = round-positive (m * up e * (m * up e)) (mul-pos (down-pos e) (down-pos e))
 square-positive (fin false m e) h = round-positive (m * up e * (m * up e)) (mul-pos (down-pos e) (down-pos e))
-
-round-number : (s : Bool) (a c : ℕ) → isNan (round binary64 s a c) ≡ false
-round-number s a c = ap isNan (round-is binary64 s a c) ∙ go (kept 53 (a * 2 ^ 1074) c) (drop 53 (a * 2 ^ 1074) c) (ltb (kept 53 (a * 2 ^ 1074) c * 2 ^ drop 53 (a * 2 ^ 1074) c) (2 ^ 2098)) refl
-  where
-    go : (q k : ℕ) (t : Bool) → ltb (q * 2 ^ k) (2 ^ 2098) ≡ t → isNan (units binary64 s q k) ≡ false
-    go zero k true h = unfold units odd isNan in rw h
-    go (suc q) k true h = unfold units odd isNan in rw h
-    go q k false h = unfold units isNan in rw h
 
 -- ---- the two sums of k + 2 numbers
 module _ (e : List Float) (k : ℕ) (numbers : (t : ℕ) → t < suc (suc k) → Number (e ‼ t)) where
@@ -167,7 +160,7 @@ module _ (e : List Float) (k : ℕ) (numbers : (t : ℕ) → t < suc (suc k) →
   differences-above : (t : ℕ) → t < suc k → Above 0 (squareOf (e ‼ (t + 1) ⊖ e ‼ t))
   differences-above t g =
       let d = difference-is (numbers t (omega arith)) (numbers (t + 1) (omega arith)) in
-      square-positive (e ‼ (t + 1) ⊖ e ‼ t) (rw (d .1) (round-number (d .0) (natAbs (exactDifference e t)) (2 ^ 1074)))
+      square-positive (e ‼ (t + 1) ⊖ e ‼ t) (rw (d .1) (round-number binary64 (d .0) (natAbs (exactDifference e t)) (2 ^ 1074)))
 
   -- where the sum of squares is below 2^j, no number is above 2^i
   small : (i j : ℕ) → 2 ^ j * 2 ^ 1074 ≤ 2 ^ i * 2 ^ i → (g : ℕ) → Valued (SS e (suc (suc k))) false g → g < 2 ^ j → (t : ℕ) (l : t < suc (suc k)) → numbers t l .units ≤ 2 ^ i

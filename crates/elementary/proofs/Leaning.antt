@@ -1,7 +1,7 @@
 -- Which way a standardized point leans: x - mean leans up where x is at or above the mean, and a division by a root above 0 keeps that. The one idea: a value leans s where
 -- it has the sign s or is a zero, since a zero counts for either side whatever its sign. Assumes nothing.
 use mathlib.Core.Path.{_≡_, refl, sym, _∙_, subst}
-use mathlib.Core.Bool.{Bool, true, false, not, _&&_, _||_, Bool·beq, cond, true≢false}
+use mathlib.Core.Bool.{Bool, true, false, not, _&&_, _||_, cond, true≢false}
 use Prim.Native.Nat.{ℕ, zero, suc, _+_, _-_, _*_, _^_, _≤_, _<_}
 use native.Mathlib.Nat.{zero-mul, mul-pos, lt-irrefl}
 use native.Mathlib.Omega.{arith}
@@ -15,6 +15,7 @@ use lib.Ieee.Exact.{HasValue, round-exact}
 use lib.Ieee.Scale.{finite}
 use lib.Ieee.Positive.{positive}
 use Rattle.floats.specs.Words.{_⊖_, _⊘_, plusZero}
+use Rattle.floats.proofs.Numbers.{sum-number}
 
 -- the value has the sign s, or is a zero
 pub data Leans (s : Bool) : Float → Type 0 where
@@ -138,22 +139,13 @@ difference-down (inf false) (fin t n d) f h = absurd (true≢false (sym h))
 difference-down (fin s a e) (fin t n d) f h = down-sum s t (a * up e * down d) (n * up d * down e) (down e * down d) (mul-pos (down-pos e) (down-pos d)) h
 
 -- ---- the difference of any two, one of them finite, is a number
-sum-number : (s t : Bool) (a b c : ℕ) → isNan (sum binary64 s a t b c) ≡ false
-unfolding sum
-sum-number s t a b c = go (Bool·beq s t) (ltb a b)
-  where
-    go : (x y : Bool) → isNan (cond x (round binary64 s (a + b) c) (cond y (round binary64 t (b - a) c) (round binary64 (s && ltb b a) (a - b) c))) ≡ false
-    go true y = leans-number (round-leans s (a + b) c)
-    go false true = leans-number (round-leans t (b - a) c)
-    go false false = leans-number (round-leans (s && ltb b a) (a - b) c)
-
 pub difference-number : (x m : Float) → finite m ≡ true → isNan x ≡ false → isNan (x ⊖ m) ≡ false
 unfolding sub add neg
 difference-number x nan f h = absurd (true≢false (sym f))
 difference-number x (inf t) f h = absurd (true≢false (sym f))
 difference-number nan (fin t n d) f h = unfold isNan in absurd (true≢false h)
 difference-number (inf s) (fin t n d) f h = unfold isNan in refl
-difference-number (fin s a e) (fin t n d) f h = sum-number s (not t) (a * up e * down d) (n * up d * down e) (down e * down d)
+difference-number (fin s a e) (fin t n d) f h = sum-number binary64 s (a * up e * down d) (not t) (n * up d * down e) (down e * down d)
 
 -- every number leans one way
 pub some-way : (x : Float) → isNan x ≡ false → (s : Bool) × Leans s x

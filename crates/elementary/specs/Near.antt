@@ -2,8 +2,8 @@
 -- Definitions only. Assumes nothing.
 --
 -- Method: both functions find their row by one number y ≥ 0, which is the square of the tangent for the one and the argument itself for the other.
---   1. The rows are the quarters of the 32 octaves of y + 2 ^ -10, from 2 ^ -10 on: sixteen digits of the pattern of y ⊕ 2 ^ -10, from the exponent field down to the second digit
---      below the leading one, say which. The table ends at 2 ^ 22, and 4000000 is the reach: beyond 2 ^ 22 the count would begin at row 0 again.
+--   1. The rows are the quarters of the 32 octaves of y + 2 ^ -10, from 2 ^ -10 on: the exponent field of the pattern of y ⊕ 2 ^ -10 says which octave, counted from that of 2 ^ -10, and the
+--      two digits below it which quarter. The table ends where the sum is 2 ^ 22, and 4000000 is the reach: beyond that end the count would begin at row 0 again.
 --   2. atan a = atan p + atan t with t = (a - p) / (1 + p a), |t| ≤ 1/32. atan t = t + t z A(z), z = t², A a polynomial of degree 3 by Horner's rule.
 --   3. ln (1 + y) = ln (1 + q) + ln (1 + r) with q = p ⊗ p and r = (y - q) / (1 + q). With s = r / (2 + r), |s| ≤ 0.056: ln (1 + r) = r - s (r - z L(z)), z = s², L a
 --      polynomial of degree 3.

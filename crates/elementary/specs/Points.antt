@@ -1,6 +1,6 @@
 -- The table that the arc tangent and ln (1 + y) share: 128 points p from 0 up, by their bit patterns, each with the angle whose tangent it is and with ln (1 + q), q = p ⊗ p.
 -- Row i serves the y of Near's place i. The first four points are 0, with the angle +0 and the logarithm -0. The others were searched near the middle of their rows (Gal's way),
--- so that angle and logarithm lie within 1/128 of a unit in the last place of a double, and 1 + q within 1/16 of one: neither needs a second part.
+-- so that angle and logarithm lie within 1/128 of a unit in the last place of a double, and 1 + q within 1/16 of one: none of the three needs a second part.
 -- measure/elementary/table.py makes the table again, and with --check holds this text and the code's to what is said here. Definitions only. Assumes nothing.
 use mathlib.Core.List.{List, [], _∷_, _++_, map}
 use lib.Ieee.{Float}

@@ -1,7 +1,8 @@
 // Elementary functions and the tails of the normal law, as plain float steps, each rounded once: the
-// same bits on every machine. Every function is total. Each promise names the list of steps that the
-// function is proved equal to; specs/ has the lists, with the method in numbered steps, the ranges,
-// the measured error and where the constants come from.
+// same bits on every machine. Every function is total, but for those that are lent the table, which ask
+// for its 384 numbers, and for near::place, which asks for a y below the reach. Each promise names the list of
+// steps that the function is proved equal to; specs/ has the lists, with the method in numbered steps, the
+// ranges, the measured error and where the constants come from.
 mod arctangent;
 mod exponential;
 mod logarithm;

@@ -9,7 +9,7 @@ use crate::polynomials::horner;
 // Below it a number has a place in the table.
 pub const REACH: f64 = 4000000.0; // 414e848000000000
 
-// Where the octaves of the table begin, less themselves: 2^-10.
+// What is added to y: the octaves of the sum that the table goes by begin with it. 2^-10.
 const LEAST: f64 = 0.0009765625; // 3f50000000000000
 
 // (atan t / t - 1) / z in powers of z = t^2: z^3, z^2, z, 1.

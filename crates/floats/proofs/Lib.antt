@@ -9,6 +9,6 @@ pub mod RowLaws
 pub mod MatrixLaws
 pub mod Commutes
 pub mod Negatives
-pub mod PlusLaws
+pub mod OrderLaws
 pub mod Numbers
 pub mod HalfLaws

@@ -13,7 +13,7 @@ use lib.Arith.{digits-lt, digits-div, digits-mod}
 use lib.Ieee.{Float, nan}
 use borrow.Author.Tests.{ltb-true, ltb-false}
 use Rattle.floats.specs.Words.{_‼_}
-use Rattle.floats.specs.Tables.{table, square, symmetric, part, withPart}
+use Rattle.floats.specs.Tables.{square, symmetric, part, withPart}
 use Rattle.floats.proofs.TableLaws.{length-table, getD-table}
 use Rattle.floats.specs.Matrix.{entry, Symmetric}
 

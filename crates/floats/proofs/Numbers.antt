@@ -31,7 +31,7 @@ sum-number f s a t b c =
     either (Bool·beq s t) (round f s (a + b) c) (cond (ltb a b) (round f t (b - a) c) (round f (s && ltb b a) (a - b) c)) (round-number f s (a + b) c)
     (either (ltb a b) (round f t (b - a) c) (round f (s && ltb b a) (a - b) c) (round-number f t (b - a) c) (round-number f (s && ltb b a) (a - b) c))
 
--- a finite number added, on either side
+-- a finite number added to a number that is no NaN
 pub add-number : (x y : Float) → isNan x ≡ false → finite y ≡ true → isNan (x ⊕ y) ≡ false
 unfolding add isNan
 add-number nan y h k = absurd (true≢false h)

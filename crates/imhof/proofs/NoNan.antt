@@ -1,19 +1,17 @@
 -- Sums of finite numbers, and what is made of them here, are no NaN: a sum can reach an infinity, and an infinity plus a finite number is that infinity. A number that is no NaN, clamped,
 -- lies in [0, 1]. Assumes nothing.
 use mathlib.Core.Path.{_≡_, refl, sym}
-use mathlib.Core.Logic.{_⊎_, ⊎-elim}
-use mathlib.Core.Bool.{Bool, true, false, not, _&&_, _||_, cond, true≢false}
-use Prim.Native.Nat.{ℕ, zero, suc, _+_, _-_, _*_, _<_}
-use native.Mathlib.Nat.{eq-or-lt-of-le, eq-zero-or-pos}
+use mathlib.Core.Bool.{Bool, true, false, not, cond, true≢false}
+use Prim.Native.Nat.{ℕ, zero, suc, _*_, _<_}
 use native.Mathlib.Omega.{arith}
 use lib.IntN.{ℤ, negsuc}
-use lib.Dec.{ltb, eqb}
-use borrow.Author.Tests.{ltb-false, lt-ltb, eq-eqb}
-use lib.Ieee.{Float, nan, inf, fin, binary64, up, down, sum, add, sub, neg, div, lt, eq, le, isNan, below, level, unlike, ofBits}
+use lib.Dec.{eqb}
+use lib.Ieee.{Float, nan, inf, fin, binary64, up, down, add, sub, neg, div, lt, eq, le, isNan, unlike, ofBits}
 use lib.Ieee.Scale.{finite}
 use Rattle.floats.specs.Words.{_⊖_, _⊘_, plusZero, one}
 use Rattle.floats.specs.Sums.{sumOf}
 use Rattle.floats.proofs.Numbers.{round-number, sum-number, add-number}
+use Rattle.floats.proofs.OrderLaws.{not-below}
 use Rattle.elementary.specs.Patterns.{half}
 use Rattle.imhof.specs.Imhof.{clampOf, pi}
 
@@ -51,40 +49,6 @@ unfolding ofBits
 by-pi x h = sub-number half (x ⊘ pi) refl (rw pi-value (div-number x false 884279719003555 (negsuc 47) h refl))
 
 -- ---- the clamp
-
-or-true : (x : Bool) → (x || true) ≡ true
-or-true true = refl
-or-true false = refl
-
-at-most : (a b : ℕ) → ltb a b ≡ false → (ltb b a || (eqb b a && true)) ≡ true
-at-most a b h = ⊎-elim (λ e. rw (eq-eqb b a e) (or-true (ltb b a))) (λ l. rw (lt-ltb b a l)) (eq-or-lt-of-le (ltb-false a b h))
-
-ordered : (s : Bool) (a : ℕ) (t : Bool) (b : ℕ) → below s a t b ≡ false → (below t b s a || level t b s a) ≡ true
-ordered false a false b h = at-most a b h
-ordered true a true b h = ⊎-elim (λ e. rw (eq-eqb b a (sym e)) (or-true (ltb a b))) (λ l. rw (lt-ltb a b l)) (eq-or-lt-of-le (ltb-false b a h))
-ordered false a true b h =
-    ⊎-elim (λ z. let p : a ≡ 0 = omega arith in let q : b ≡ 0 = omega arith in rw (p, q)) (λ l. rw (lt-ltb 0 (b + a) l)) (eq-zero-or-pos (b + a))
-ordered true a false b h =
-    let l = ltb-false 0 (a + b) h in
-    let p : a ≡ 0 = omega arith in
-    let q : b ≡ 0 = omega arith in
-    rw (p, q)
-
--- of two numbers that are no NaN, where the first is not below the second, the second is at most the first
-not-below : (x y : Float) → isNan x ≡ false → isNan y ≡ false → lt x y ≡ false → le y x ≡ true
-unfolding lt le eq isNan
-not-below nan y h k l = absurd (true≢false h)
-not-below (inf s) nan h k l = absurd (true≢false k)
-not-below (inf true) (inf true) h k l = refl
-not-below (inf true) (inf false) h k l = absurd (true≢false l)
-not-below (inf false) (inf true) h k l = refl
-not-below (inf false) (inf false) h k l = refl
-not-below (inf true) (fin t n d) h k l = absurd (true≢false l)
-not-below (inf false) (fin t n d) h k l = refl
-not-below (fin s m e) nan h k l = absurd (true≢false k)
-not-below (fin s m e) (inf true) h k l = refl
-not-below (fin s m e) (inf false) h k l = absurd (true≢false l)
-not-below (fin s m e) (fin t n d) h k l = ordered s (m * up e * down d) t (n * up d * down e) l
 
 -- from 0 to 1
 abbrev pub Within : Float → Type 0

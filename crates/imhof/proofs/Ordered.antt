@@ -21,7 +21,7 @@ use Rattle.imhof.specs.Rule.{gk15Of, middleOf}
 use Rattle.imhof.specs.Parts.{partAt, worstOf, leftHalf, rightHalf, finitePart, stageAfter}
 use Rattle.imhof.proofs.StageLaws.{split, finiteHalves, length-split}
 use Rattle.imhof.proofs.EveryStage.{All, all-map, all-at, all-bisected, worst-inside, every-stage}
-use Rattle.floats.proofs.PlusLaws.{le-self}
+use Rattle.floats.proofs.OrderLaws.{le-self}
 use Rattle.imhof.proofs.Midpoint.{Small, middle-between, le-through, small-through}
 
 -- 2 ^ 1023

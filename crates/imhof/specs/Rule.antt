@@ -48,7 +48,7 @@ pointsOf a b = aboutOf (middleOf a b) (halfWidth a b) (take 7 nodes) ++ (middleO
 abbrev pub ruleSize : ℕ
 ruleSize = length (pointsOf plusZero one)
 
--- of the integrand's values fs at the points of an interval: both at node i, and that at the middle
+-- of the integrand's values fs at the points of an interval: the sum of both at node i, and that at the middle
 abbrev pub pairAt : List Float → ℕ → Float
 pairAt fs i = fs ‼ (2 * i) ⊕ fs ‼ (2 * i + 1)
 

@@ -14,7 +14,7 @@ use Rattle.floats.specs.Words.{_⊗_, squareOf, plusZero}
 use Rattle.floats.specs.Signs.{minus}
 use Rattle.floats.proofs.Commutes.{product-swap}
 use Rattle.floats.proofs.Negatives.{product-plus, square-plus}
-use Rattle.floats.proofs.PlusLaws.{cross-of, le-lt, up-to-minus, from-zero}
+use Rattle.floats.proofs.OrderLaws.{cross-of, le-lt, up-to-minus, from-zero}
 
 -- products grow with a factor, and squares with their root
 grows : (a b x y p q : ℕ) → x * q ≤ y * p → a * x * (b * q) ≤ a * y * (b * p)

@@ -25,7 +25,7 @@ use Rattle.elementary.specs.Patterns.{half}
 use Rattle.integrand.specs.Integrand.{quarter, integrandOf}
 use Rattle.integrand.specs.Lanes.{addedTo, Upto}
 use Rattle.floats.proofs.Negatives.{neg-neg, minus-neg, product-neg, square-neg, product-plus}
-use Rattle.floats.proofs.PlusLaws.{above-plus, above-number, up-to, up-to-self, not-below}
+use Rattle.floats.proofs.OrderLaws.{above-plus, above-number, up-to, up-to-self, not-below}
 use Rattle.integrand.proofs.GrowthLaws.{below-largest, square-from, neg-minus, far-nan}
 
 -- each of the first j numbers of a run is above 0 and at most r
@@ -43,7 +43,7 @@ module _ (us : List Float) (j : ℕ) (r : Float) (plus : minus r ≡ false) (num
   -- and is passed over else
   pub upto-same : lt r (us ‼ j) ≡ false → UptoBy us (j + 1) r
   upto-same k i h =
-      ⊎-elim (λ e. rw e (above, not-below r (us ‼ j) plus number above k)) (λ l. all i l) (eq-or-lt-of-le {n = i} {m = j} (omega arith))
+      ⊎-elim (λ e. rw e (above, not-below r (us ‼ j) number (above-number (us ‼ j) above) k)) (λ l. all i l) (eq-or-lt-of-le {n = i} {m = j} (omega arith))
 
 -- the size of a weight: without the sign b
 abbrev pub sizeOf : Bool → Float → Float

@@ -1,3 +1,4 @@
+-- After t weights each sum is that of the first t weights' terms at its u (LaneLaws' sumsAt); of all of them the integrand at each s is made (lanes-closed).
 use Prim.Native.Nat.{_≤_, _-_}
 use native.Mathlib.Omega.{arith}
 use mathlib.Core.Path.{_≡_, refl, ap, _∙_}
@@ -51,11 +52,11 @@ loop-again c =
       added .1 ∙ rw (entry .pre .0, l .inv .5) (sums-more logTerm ws us (l .t)),
     )
 
-close-requires : tie.Need-close-requires Inv-loop μ-loop
-close-requires c κs =
-    let densities = c .before .before .before .before .densities in
+sine-over-rho-requires : tie.Need-sine-over-rho-requires Inv-loop μ-loop
+sine-over-rho-requires c κs =
+    let made = c .before .before .before .before .one-over-rho in
     let u = c .before .before .before .before .before .before .before .before .before .before .before .before in
-    (search needs, rw (densities .ensures) (length-table _ 16), rw (u .exps .ensures) (length-table _ 16))
+    (search needs, rw (made .ensures) (length-table _ 16), rw (u .exps .ensures) (length-table _ 16))
 
 returns : tie.Need-returns Inv-loop μ-loop
 returns c =
@@ -64,8 +65,8 @@ returns c =
     let entry = u .before .before .before .before .before in
     let ws = entry .args .weights .now in
     let whole : end .loop .t ≡ length ws = omega arith in
-    c .before .before .close .ensures
-    ∙ rw (c .before .before .before .before .before .before .before .densities .ensures, end .loop .inv .4, end .loop .inv .5, whole, u .exps .ensures) (lanes-closed ws (entry .args .s .now) (entry .pre .1))
+    c .before .before .sine-over-rho .ensures
+    ∙ rw (c .before .before .before .before .before .before .before .one-over-rho .ensures, end .loop .inv .4, end .loop .inv .5, whole, u .exps .ensures) (lanes-closed ws (entry .args .s .now) (entry .pre .1))
 
 pub integrands-spec : {M : Type 1} → statement M
 integrands-spec =
@@ -73,4 +74,4 @@ integrands-spec =
     (tie.spec Inv-loop μ-loop (λ c κs. c .before .before .before .before .pre .1) largest-requires loop-holds
     (λ c. search needs) (λ c. search needs) (λ c. search needs) (λ c. search needs) add-weight-requires
     (λ c. search needs) (λ c. search needs) loop-again (λ c. search needs) (λ c κs. search needs)
-    (λ c. search needs) (λ c. search needs) close-requires (λ c. search needs) returns)
+    (λ c. search needs) (λ c. search needs) sine-over-rho-requires (λ c. search needs) returns)

@@ -1,6 +1,5 @@
 use Rattle.elementary.specs.Points.{points}
 use mathlib.Core.Path.{refl}
-use borrow.Author.Needs.{needs}
 use Rattle.elementary.proofs.points.points.Statement.{statement}
 use Rattle.elementary.proofs.points.points.Tie as tie
 

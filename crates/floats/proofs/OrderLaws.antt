@@ -1,12 +1,13 @@
--- Numbers with the sign plus in their order: those above 0, and one up to the next and the next below a third. The laws of values go by the three kinds of value. Assumes nothing.
+-- The order of values: numbers above 0, one up to the next and the next below a third, what is not below another, and a number beside itself. The laws go by the three kinds of value. Assumes nothing.
 use mathlib.Core.Path.{_≡_, refl, sym, subst}
-use mathlib.Core.Bool.{Bool, true, false, not, _&&_, _||_, true≢false}
-use Prim.Native.Nat.{ℕ, zero, suc, _*_, _≤_, _<_}
-use native.Mathlib.Nat.{le-of-eq, le-of-lt, not-le-of-lt, lt-of-not-le, lt-irrefl, zero-mul, mul-pos, le-antisymm}
+use mathlib.Core.Logic.{⊎-elim}
+use mathlib.Core.Bool.{Bool, true, false, _&&_, _||_, true≢false}
+use Prim.Native.Nat.{ℕ, zero, suc, _+_, _*_, _≤_, _<_}
+use native.Mathlib.Nat.{eq-or-lt-of-le, eq-zero-or-pos, le-of-eq, le-of-lt, not-le-of-lt, lt-of-not-le, lt-irrefl, zero-mul, mul-pos}
 use native.Mathlib.Omega.{arith}
-use borrow.Author.Tests.{lt-ltb, eq-eqb}
+use borrow.Author.Tests.{ltb-false, lt-ltb, eq-eqb}
 use lib.IntN.{ℤ, pos}
-use lib.Dec.{T, ltb, eqb, ltb→lt, lt→ltb, eqb→eq, nltb→le}
+use lib.Dec.{T, ltb, eqb, ltb→lt, lt→ltb, eqb→eq}
 use lib.Ieee.{Float, nan, inf, fin, up, down, lt, eq, le, below, level, isNan, ofBits}
 use lib.Ieee.Fits.{down-pos}
 use lib.Ieee.Positive.{through}
@@ -67,28 +68,39 @@ up-to p q r P Q h k = either (lt p r) (eq p r) (le-lt p q r P Q (subst T (sym h)
     either true y h = refl
     either false y h = absurd h
 
--- a number above 0 that another is not below is up to that one
-pub not-below : (x y : Float) → minus x ≡ false → isNan x ≡ false → lt plusZero y ≡ true → lt x y ≡ false → le y x ≡ true
-unfolding minus isNan lt le eq ofBits
-not-below nan y P N U h = absurd (true≢false N)
-not-below (inf true) y P N U h = absurd (true≢false P)
-not-below (inf false) nan P N U h = absurd (true≢false (sym U))
-not-below (inf false) (inf true) P N U h = absurd (true≢false (sym U))
-not-below (inf false) (inf false) P N U h = refl
-not-below (inf false) (fin t n d) P N U h = refl
-not-below (fin true m e) y P N U h = absurd (true≢false P)
-not-below (fin false m e) nan P N U h = absurd (true≢false (sym U))
-not-below (fin false m e) (inf true) P N U h = absurd (true≢false (sym U))
-not-below (fin false m e) (inf false) P N U h = absurd (true≢false h)
-not-below (fin false m e) (fin true n d) P N U h = absurd (true≢false (sym U))
-not-below (fin false m e) (fin false n d) P N U h = level-or (m * up e * down d) (n * up d * down e) h
-  where
-    level-or : (a b : ℕ) → ltb a b ≡ false → ltb b a || (eqb b a && true) ≡ true
-    level-or a b h = go (ltb b a) refl
-      where
-        go : (x : Bool) → ltb b a ≡ x → x || (eqb b a && true) ≡ true
-        go true k = refl
-        go false k = rw (eq-eqb b a (le-antisymm (nltb→le a b (subst (λ (x : Bool). T (not x)) (sym h) tt)) (nltb→le b a (subst (λ (x : Bool). T (not x)) (sym k) tt))))
+or-true : (x : Bool) → (x || true) ≡ true
+or-true true = refl
+or-true false = refl
+
+at-most : (a b : ℕ) → ltb a b ≡ false → (ltb b a || (eqb b a && true)) ≡ true
+at-most a b h = ⊎-elim (λ e. rw (eq-eqb b a e) (or-true (ltb b a))) (λ l. rw (lt-ltb b a l)) (eq-or-lt-of-le (ltb-false a b h))
+
+ordered : (s : Bool) (a : ℕ) (t : Bool) (b : ℕ) → below s a t b ≡ false → (below t b s a || level t b s a) ≡ true
+ordered false a false b h = at-most a b h
+ordered true a true b h = ⊎-elim (λ e. rw (eq-eqb b a (sym e)) (or-true (ltb a b))) (λ l. rw (lt-ltb a b l)) (eq-or-lt-of-le (ltb-false b a h))
+ordered false a true b h =
+    ⊎-elim (λ z. let p : a ≡ 0 = omega arith in let q : b ≡ 0 = omega arith in rw (p, q)) (λ l. rw (lt-ltb 0 (b + a) l)) (eq-zero-or-pos (b + a))
+ordered true a false b h =
+    let l = ltb-false 0 (a + b) h in
+    let p : a ≡ 0 = omega arith in
+    let q : b ≡ 0 = omega arith in
+    rw (p, q)
+
+-- of two numbers that are no NaN, where the first is not below the second, the second is at most the first
+pub not-below : (x y : Float) → isNan x ≡ false → isNan y ≡ false → lt x y ≡ false → le y x ≡ true
+unfolding lt le eq isNan
+not-below nan y h k l = absurd (true≢false h)
+not-below (inf s) nan h k l = absurd (true≢false k)
+not-below (inf true) (inf true) h k l = refl
+not-below (inf true) (inf false) h k l = absurd (true≢false l)
+not-below (inf false) (inf true) h k l = refl
+not-below (inf false) (inf false) h k l = refl
+not-below (inf true) (fin t n d) h k l = absurd (true≢false l)
+not-below (inf false) (fin t n d) h k l = refl
+not-below (fin s m e) nan h k l = absurd (true≢false k)
+not-below (fin s m e) (inf true) h k l = refl
+not-below (fin s m e) (inf false) h k l = absurd (true≢false l)
+not-below (fin s m e) (fin t n d) h k l = ordered s (m * up e * down d) t (n * up d * down e) l
 
 -- a number is up to itself
 pub le-self : (s : Bool) (m : ℕ) (e : ℤ) → le (fin s m e) (fin s m e) ≡ true
@@ -97,10 +109,6 @@ le-self s m e = go s
   where
     a : ℕ
     a = m * up e * down e
-
-    or-true : (x : Bool) → (x || true) ≡ true
-    or-true true = refl
-    or-true false = refl
 
     go : (s : Bool) → (below s a s a || level s a s a) ≡ true
     go true = rw (eq-eqb a a refl) (or-true (ltb a a))

@@ -1,11 +1,12 @@
+-- Where w times the largest u is near a point of the table, so is the size of w times every u; then the terms that add_near adds are the weight's, of either sign (LaneLaws).
 use mathlib.Core.Bool.{true, false}
 use mathlib.Core.Path.{_≡_, sym, subst, _∙_}
 use lib.Dec.{T}
 use Rattle.floats.specs.Signs.{minus}
 use Rattle.integrand.proofs.LaneLaws.{lanes-near, lanes-angles, lanes-logs}
 use borrow.Author.Needs.{needs}
-use Rattle.integrand.proofs.add_weight.Statement.{statement}
-use Rattle.integrand.proofs.add_weight.Tie as tie
+use Rattle.integrand.proofs.lanes.add_weight.Statement.{statement}
+use Rattle.integrand.proofs.lanes.add_weight.Tie as tie
 
 add-near-requires : tie.Need-add-near-requires
 add-near-requires c κs =

@@ -1,3 +1,4 @@
+-- Up to place j every number is above 0 and at most `most`, which is no NaN: a larger one takes its place.
 use Prim.Native.Nat.{_≤_, _-_}
 use native.Mathlib.Omega.{arith}
 use mathlib.Core.Path.{_≡_, refl, ap, _∙_}
@@ -6,12 +7,12 @@ use mathlib.Core.Bool.{true, false}
 use mathlib.Core.Logic.{inl, inr, ⊎-elim}
 use Rattle.floats.specs.Words.{_‼_, plusZero}
 use Rattle.floats.specs.Signs.{minus}
-use Rattle.floats.proofs.PlusLaws.{above-plus, above-number}
+use Rattle.floats.proofs.OrderLaws.{above-plus, above-number}
 use Rattle.integrand.proofs.LaneLaws.{UptoBy, upto-more, upto-same}
 use borrow.Author.Needs.{needs}
 use borrow.Author.Tests.{not-false}
-use Rattle.integrand.proofs.largest.Statement.{statement}
-use Rattle.integrand.proofs.largest.Tie as tie
+use Rattle.integrand.proofs.lanes.largest.Statement.{statement}
+use Rattle.integrand.proofs.lanes.largest.Tie as tie
 
 abbrev Inv-loop : tie.InvT-loop
 Inv-loop u most₀ j₀ most j =

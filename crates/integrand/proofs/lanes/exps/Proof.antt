@@ -1,3 +1,4 @@
+-- Up to place j each number is made e to it, and behind it they are as lent.
 use Prim.Native.Nat.{_≤_, _<_, _-_}
 use native.Mathlib.Omega.{arith}
 use mathlib.Core.Path.{_≡_, _∙_}
@@ -7,8 +8,8 @@ use Rattle.floats.specs.Words.{_‼_}
 use Rattle.floats.proofs.RowLaws.{filled, filled-none, filled-here, filled-more, filled-all}
 use Rattle.elementary.specs.Exp.{expOf}
 use borrow.Author.Needs.{needs}
-use Rattle.integrand.proofs.exps.Statement.{statement}
-use Rattle.integrand.proofs.exps.Tie as tie
+use Rattle.integrand.proofs.lanes.exps.Statement.{statement}
+use Rattle.integrand.proofs.lanes.exps.Tie as tie
 
 abbrev Inv-loop : tie.InvT-loop
 Inv-loop x₀ j₀ x j = (j ≤ 16) × (length x ≡ 16) × (x ≡ filled (λ j. expOf (x₀ ‼ j)) j x₀)

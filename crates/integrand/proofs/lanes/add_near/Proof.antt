@@ -1,3 +1,4 @@
+-- Up to place j both runs are filled with sums that have the weight's term, and behind it they are as lent: each turn fills one place more.
 use Prim.Native.Nat.{_≤_, _<_, _-_}
 use native.Mathlib.Omega.{arith}
 use mathlib.Core.Path.{_≡_, _∙_}
@@ -8,8 +9,8 @@ use Rattle.floats.proofs.RowLaws.{filled, filled-none, filled-here, filled-more
 use mathlib.Core.Bool.{cond}
 use Rattle.elementary.specs.Near.{angleBy, logBy}
 use borrow.Author.Needs.{needs}
-use Rattle.integrand.proofs.add_near.Statement.{statement}
-use Rattle.integrand.proofs.add_near.Tie as tie
+use Rattle.integrand.proofs.lanes.add_near.Statement.{statement}
+use Rattle.integrand.proofs.lanes.add_near.Tie as tie
 
 abbrev Inv-loop : tie.InvT-loop
 Inv-loop ps a minus u angles₀ logs₀ j₀ angles logs j =

@@ -1,3 +1,4 @@
+-- As add_near, with the functions that take any number.
 use Prim.Native.Nat.{_≤_, _<_, _-_}
 use native.Mathlib.Omega.{arith}
 use mathlib.Core.Path.{_≡_, _∙_}
@@ -8,8 +9,8 @@ use Rattle.floats.proofs.RowLaws.{filled, filled-none, filled-here, filled-more
 use Rattle.elementary.specs.Atan.{atanBy}
 use Rattle.elementary.specs.Ln.{ln1pBy}
 use borrow.Author.Needs.{needs}
-use Rattle.integrand.proofs.add_any.Statement.{statement}
-use Rattle.integrand.proofs.add_any.Tie as tie
+use Rattle.integrand.proofs.lanes.add_any.Statement.{statement}
+use Rattle.integrand.proofs.lanes.add_any.Tie as tie
 
 abbrev Inv-loop : tie.InvT-loop
 Inv-loop ps w u angles₀ logs₀ j₀ angles logs j =
