@@ -13,7 +13,7 @@ enum { PRECISION = 192 };
 
 typedef int (*Exact)(mpfr_t, const mpfr_t, mpfr_rnd_t);
 
-// The bounds in units in the last place that measure.sh holds the port to. Each is what was measured, rounded up.
+// The bounds in units in the last place that measure.sh holds the port to: what was measured, rounded up; of atan, and of ln_1p from 0 up, the goal that was set.
 #define EXP_BOUND 0.75
 #define EXP_SUBNORMAL_BOUND 0.85  // the result is rounded a second time
 #define LN_BOUND 0.90
