@@ -1,6 +1,7 @@
 /* Calls the library on sheets whose answers are known: worked by hand where p is 0, 1/2 or 1, else by the oracle's first build (oracle/README.md),
    which shares the library's elementary functions and so its bits. Prints each check that fails, then `N passed, M failed`; status 1 if any failed. */
 #include "dwexport.h"
+#include "../target/link/fields.h" /* names[], which link/check has tools/line.py write */
 
 #include <stdio.h>
 #include <string.h>
@@ -61,7 +62,6 @@ static void check_rooms(const char *name, size_t n, int used) {
 }
 
 static void check_words(const char *name, const uint64_t *words) {
-    static const char *const names[] = {"refusal", "place", "statistic", "p", "path", "fallback", "kept", "sweeps", "bisections", "evaluations", "settled"};
     for (size_t t = 0; t < DWEXPORT_WORDS; t++) check(name, names[t], result[t] == words[t]);
     check(name, "a word beyond the result", result[DWEXPORT_WORDS] == 0xdeadbeef);
 }
@@ -80,12 +80,13 @@ static void answered(const char *name, size_t n, size_t k, uint32_t alternative,
 }
 
 static void accepted(const char *name, size_t n, size_t k, uint32_t alternative, uint32_t choice, uint64_t statistic, uint64_t p, uint64_t path, uint64_t kept, uint64_t sweeps, uint64_t bisections, uint64_t evaluations, uint64_t settled) {
-    const uint64_t words[DWEXPORT_WORDS] = {0, 0, statistic, p, path, 0, kept, sweeps, bisections, evaluations, settled};
+    const uint64_t words[DWEXPORT_WORDS] = {[DWEXPORT_STATISTIC] = statistic, [DWEXPORT_P] = p, [DWEXPORT_PATH] = path, [DWEXPORT_KEPT] = kept,
+        [DWEXPORT_SWEEPS] = sweeps, [DWEXPORT_BISECTIONS] = bisections, [DWEXPORT_EVALUATIONS] = evaluations, [DWEXPORT_SETTLED] = settled};
     answered(name, n, k, alternative, choice, path == 2, words);
 }
 
 static void refused(const char *name, size_t n, size_t k, uint32_t choice, uint64_t refusal, uint64_t place) {
-    const uint64_t words[DWEXPORT_WORDS] = {refusal, place};
+    const uint64_t words[DWEXPORT_WORDS] = {[DWEXPORT_REFUSAL] = refusal, [DWEXPORT_PLACE] = place};
     answered(name, n, k, DWEXPORT_GREATER, choice, 0, words);
 }
 
@@ -167,7 +168,8 @@ static void by_the_oracle(void) {
 
 /* 2 n^2 numbers of matrix room, and one fewer: the answer is that of n (n + 1), and the numbers beyond these stay. */
 static void full_matrices(void) {
-    const uint64_t words[DWEXPORT_WORDS] = {0, 0, 0x3ffcaeecd63bf23eu, 0x3fdd9bd745fb9216u, 2, 0, 18, 42, 13, 405, 1};
+    const uint64_t words[DWEXPORT_WORDS] = {[DWEXPORT_STATISTIC] = 0x3ffcaeecd63bf23eu, [DWEXPORT_P] = 0x3fdd9bd745fb9216u, [DWEXPORT_PATH] = 2, [DWEXPORT_KEPT] = 18,
+        [DWEXPORT_SWEEPS] = 42, [DWEXPORT_BISECTIONS] = 13, [DWEXPORT_EVALUATIONS] = 405, [DWEXPORT_SETTLED] = 1};
     cubes(20);
     intercept_and_position(20, 2);
     answered_with("20 rows, 420 numbers of matrix room", 20, 40, 2, DWEXPORT_TWO_SIDED, DWEXPORT_EXACT, 420, DWEXPORT_PART_ROOM, 1, words);
@@ -178,7 +180,7 @@ static void full_matrices(void) {
 
 /* Lengths that do not fit: refusals of the test for the columns and the rooms, return codes for the rest. */
 static void lengths_and_codes(void) {
-    uint64_t words[DWEXPORT_WORDS] = {3};
+    uint64_t words[DWEXPORT_WORDS] = {[DWEXPORT_REFUSAL] = 3};
     set(1, -1, 1, -1);
     answered_with("columns one number short", 4, 3, 1, DWEXPORT_GREATER, DWEXPORT_DEFAULT, ROOM, DWEXPORT_PART_ROOM, 0, words);
     words[DWEXPORT_REFUSAL] = 12, words[DWEXPORT_PLACE] = 1;
@@ -186,13 +188,13 @@ static void lengths_and_codes(void) {
     words[DWEXPORT_PLACE] = 2;
     answered_with("part room one number short", 4, 4, 1, DWEXPORT_GREATER, DWEXPORT_EXACT, 20, DWEXPORT_PART_ROOM - 1, 0, words);
     turned_away("a result of no word", DWEXPORT_GREATER, DWEXPORT_EXACT, 0, DWEXPORT_WRONG_RESULT_LENGTH);
-    turned_away("a result of 10 words", DWEXPORT_GREATER, DWEXPORT_EXACT, 10, DWEXPORT_WRONG_RESULT_LENGTH);
-    turned_away("a result of 12 words", DWEXPORT_GREATER, DWEXPORT_EXACT, 12, DWEXPORT_WRONG_RESULT_LENGTH);
+    turned_away("a result one word short", DWEXPORT_GREATER, DWEXPORT_EXACT, DWEXPORT_WORDS - 1, DWEXPORT_WRONG_RESULT_LENGTH);
+    turned_away("a result one word long", DWEXPORT_GREATER, DWEXPORT_EXACT, DWEXPORT_WORDS + 1, DWEXPORT_WRONG_RESULT_LENGTH);
     turned_away("alternative 3", 3, DWEXPORT_EXACT, DWEXPORT_WORDS, DWEXPORT_WRONG_ALTERNATIVE);
     turned_away("alternative 256, whose last byte is 0", 256, DWEXPORT_EXACT, DWEXPORT_WORDS, DWEXPORT_WRONG_ALTERNATIVE);
     turned_away("choice 3", DWEXPORT_GREATER, 3, DWEXPORT_WORDS, DWEXPORT_WRONG_CHOICE);
     turned_away("choice 2^32 - 1", DWEXPORT_GREATER, 0xffffffff, DWEXPORT_WORDS, DWEXPORT_WRONG_CHOICE);
-    turned_away("all three wrong: the length first", 3, 3, 12, DWEXPORT_WRONG_RESULT_LENGTH);
+    turned_away("all three wrong: the length first", 3, 3, DWEXPORT_WORDS + 1, DWEXPORT_WRONG_RESULT_LENGTH);
     turned_away("both codes wrong: the alternative first", 3, 3, DWEXPORT_WORDS, DWEXPORT_WRONG_ALTERNATIVE);
 }
 

@@ -1,8 +1,18 @@
 //! Reads sheet files, asks the library each sheet, and compares the words with the sheet program's lines:
 //! `check FILE.sheet FILE.txt ..`. Then a result of a wrong length and wrong codes, and matrix rooms of other lengths. Prints each check that fails, then `N passed, M failed`.
+use fields::{Field, FIELDS};
 use std::{env, fs, process};
 
-const WORDS: usize = 11;
+/// The line's fields, which link/check has tools/line.py write.
+#[path = "../target/link/fields.rs"]
+mod fields;
+
+/// The result has a word for each field but the index, which is the first.
+const WORDS: usize = FIELDS.len() - 1;
+
+fn word(result: &[u64], field: Field) -> u64 {
+    result[field as usize - 1]
+}
 
 extern "C" {
     fn dwexport_test(
@@ -51,7 +61,10 @@ fn line(file: &[u8], i: usize) -> String {
     if code != 0 {
         return format!("{} is not answered: {}", i, code);
     }
-    format!("{} {} {} {:016x} {:016x} {} {} {} {} {} {} {}", i, w[0], w[1], w[2], w[3], w[4], w[5], w[6], w[7], w[8], w[9], w[10])
+    fields::line(|field| match field {
+        Field::Index => i as u64,
+        _ => word(&w, field),
+    })
 }
 
 struct Tally {
@@ -94,7 +107,7 @@ fn main() {
             tally.check(&pair[0], &line(&file, i), wanted);
         }
     }
-    for (name, words, alternative, choice, code) in [("10 words", 10, 0, 0, "1"), ("12 words", 12, 0, 0, "1"), ("alternative 3", 11, 3, 0, "2"), ("choice 3", 11, 0, 3, "3"), ("sound", 11, 0, 0, "0")] {
+    for (name, words, alternative, choice, code) in [("a word short", WORDS - 1, 0, 0, "1"), ("a word long", WORDS + 1, 0, 0, "1"), ("alternative 3", WORDS, 3, 0, "2"), ("choice 3", WORDS, 0, 3, "3"), ("sound", WORDS, 0, 0, "0")] {
         let (mut matrix, mut parts, mut result) = (vec![1.0; 12], vec![1.0; 8004], vec![7; words]);
         let found = test(&[1.0, -1.0, 0.0], &[1.0; 3], 1, alternative, choice, &mut matrix, &mut parts, &mut result);
         tally.check(name, &found.to_string(), code);
@@ -106,9 +119,9 @@ fn main() {
         let name = format!("three rows, {} numbers of matrix room", lent);
         let (mut matrix, mut parts, mut w) = (vec![1.0; lent], vec![1.0; 8004], [7; WORDS]);
         let code = test(&[1.0, -1.0, 0.0], &[1.0; 3], 1, 0, 1, &mut matrix, &mut parts, &mut w);
-        tally.check(&name, &format!("{} {} {}", code, w[0], w[1]), &format!("0 {}", refusal));
+        tally.check(&name, &format!("{} {} {}", code, word(&w, Field::Refusal), word(&w, Field::Place)), &format!("0 {}", refusal));
         let p: u64 = if cleared > 0 { 0x3fe5555555554755 } else { 0 };
-        tally.check(&name, &format!("{:016x}", w[3]), &format!("{:016x}", p));
+        tally.check(&name, &format!("{:016x}", word(&w, Field::P)), &format!("{:016x}", p));
         let held = matrix.iter().enumerate().all(|(t, x)| x.to_bits() == if t < cleared { 0 } else { 1.0f64.to_bits() });
         tally.check(&name, &held.to_string(), "true");
     }

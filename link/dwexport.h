@@ -33,13 +33,13 @@ enum {
     DWEXPORT_WRONG_CHOICE = 3         /* no such code */
 };
 
-/* The words of the result, in the order of the sheet program's line. */
+/* The words of the result, in the order of the sheet program's line, as tools/line.py writes them. */
 enum {
     DWEXPORT_REFUSAL = 0,     /* 0 accepted; else 1 to 14, and every word but the place is 0 (README.md has the table) */
     DWEXPORT_PLACE = 1,       /* where, for a refusal that has a place */
     DWEXPORT_STATISTIC = 2,   /* the bits of the statistic, a double */
     DWEXPORT_P = 3,           /* the bits of p, a double */
-    DWEXPORT_PATH = 4,        /* 1 fewer than 3 rows, p is 1; 2 exact; 3 normal; 4 normal with fewer than 5 rows, p is 1 */
+    DWEXPORT_PATH = 4,        /* 1 fewer than three rows, p is 1; 2 exact; 3 normal; 4 normal with fewer than five rows, p is 1; 0 none */
     DWEXPORT_FALLBACK = 5,    /* 1: the exact path had no value, and path 3 or 4 answered */
     DWEXPORT_KEPT = 6,        /* eigenvalues kept */
     DWEXPORT_SWEEPS = 7,      /* of the QL step */
@@ -49,6 +49,7 @@ enum {
                                  needed the final sum of its errors is at most 5e-12 */
     DWEXPORT_WORDS = 11
 };
+/* The end of what tools/line.py writes. */
 
 /* The test of a sheet. Any numbers may be given, NaN and infinities too.
 

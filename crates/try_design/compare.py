@@ -19,6 +19,11 @@ import subprocess
 import sys
 import tempfile
 
+TOP = os.path.dirname(os.path.dirname(os.path.dirname(os.path.abspath(__file__))))
+sys.dont_write_bytecode = True
+sys.path.insert(0, os.path.join(TOP, 'tools'))
+from line import record_of  # noqa: E402
+
 BY_RESIDUALS = (5, 6, 7, 8, 9)   # the statistic's refusals: try_design is asked about the columns alone
 
 
@@ -55,7 +60,7 @@ def make_plain(file):
 
 
 def oracle_answers(text):
-    """Of each call the fields of its line, and its named lines."""
+    """Of each call what its line says, and its named lines."""
     answers = []
     for line in text.decode().split('\n'):
         words = line.split()
@@ -64,7 +69,7 @@ def oracle_answers(text):
         if words[0] == 'file':
             raise SystemExit('compare.py: the oracle refuses a whole file: choose a kind of sheets, not of files')
         if words[0].isdigit():
-            answers.append((words, {}))
+            answers.append((record_of(line), {}))
         else:
             answers[-1][1][words[0]] = words[2:]
     return answers
@@ -83,20 +88,20 @@ def port_answers(text):
     return answers
 
 
-def expected(fields, named):
+def expected(line, named):
     """The port's lines for what the oracle said; None where the residuals decide."""
-    refusal, place, path = int(fields[1]), fields[2], int(fields[5])
+    refusal, place, path = line.refusal, line.place, line.path
     if refusal in BY_RESIDUALS:
         return None
     want = {}
-    if refusal in (0, 14) or (refusal, place) == (13, '5'):
+    if refusal in (0, 14) or (refusal, place) == (13, 5):
         want['inverse'] = named['inverse']
     if path == 3 or refusal in (13, 14) and 'inverse' in want:
         want['mean'], want['variance'] = named['law'][:1], named['law'][1:]
     if refusal:
-        want['refusal'] = [str(refusal), place]
+        want['refusal'] = [str(refusal), str(place)]
     else:
-        want['p'] = [fields[4]]
+        want['p'] = ['%016x' % line.p]
     return want
 
 
@@ -123,9 +128,9 @@ def main():
     calls = []
     for file in files:
         for residuals, n, k, alternative in entries_of(file):
-            fields = said[len(calls)][0]
+            statistic = said[len(calls)][0].statistic
             start = residuals + 8 * n
-            head = struct.pack('<QQQQQ', n, k, n * k, alternative, int(fields[3], 16))
+            head = struct.pack('<QQQQQ', n, k, n * k, alternative, statistic)
             if n * k <= 2056:
                 calls.append(head + bytes(file[start:start + 8 * n * k]))
             else:

@@ -15,8 +15,9 @@ HERE = os.path.dirname(os.path.abspath(__file__))
 TOP = os.path.dirname(os.path.dirname(HERE))
 ORACLE = os.path.join(TOP, 'oracle', 'sheets')
 sys.dont_write_bytecode = True
-sys.path.insert(0, os.path.join(TOP, 'oracle', 'tools'))
+sys.path[:0] = [os.path.join(TOP, 'oracle', 'tools'), os.path.join(TOP, 'tools')]
 import limits  # noqa: E402
+from line import record_and_rest  # noqa: E402
 
 GREATER, LESS, TWO_SIDED = 0, 1, 2
 DEFAULT, EXACT, NORMAL = 0, 1, 2
@@ -165,8 +166,8 @@ def served():
 
 def at_the_limit():
     """The sheets of oracle/tools/limits.py."""
-    for (shows, e, columns, choice), fields in limits.answered():
-        yield 'path ' + fields[5], shows, e, [x for column in columns for x in column], len(columns), choice
+    for (shows, e, columns, choice), said in limits.answered():
+        yield 'path %d' % said.path, shows, e, [x for column in columns for x in column], len(columns), choice
 
 
 def cases():
@@ -213,8 +214,8 @@ def lines():
 
 def hold_to(expected, name, line):
     """`refusal NUMBER PLACE` or `path NUMBER`, as document 01 has it."""
-    fields = line.split()
-    met = 'refusal %s %s' % (fields[1], fields[2]) if fields[1] != '0' else 'path ' + fields[5]
+    said, _ = record_and_rest(line)
+    met = 'refusal %d %d' % (said.refusal, said.place) if said.refusal else 'path %d' % said.path
     if met != expected:
         raise SystemExit('cases.py: %s: %s is due, and the oracle says: %s' % (name, expected, line))
 

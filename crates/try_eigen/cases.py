@@ -15,7 +15,7 @@ HERE = os.path.dirname(os.path.abspath(__file__))
 TOP = os.path.dirname(os.path.dirname(HERE))
 ORACLE = os.path.join(TOP, 'oracle', 'sheets')
 sys.dont_write_bytecode = True
-sys.path.insert(0, os.path.join(TOP, 'oracle', 'tools'))
+sys.path[:0] = [os.path.join(TOP, 'oracle', 'tools'), os.path.join(TOP, 'tools')]
 import limits  # noqa: E402
 
 NAN, INFINITY = float('nan'), float('inf')
@@ -91,10 +91,10 @@ def by_inverse():
 def at_the_limit():
     """The designs of oracle/tools/limits.py, each once, with the count, the sweeps and the mark of its first sheet's line."""
     seen = []
-    for (shows, _, columns, _), fields in limits.answered():
+    for (shows, _, columns, _), said in limits.answered():
         if columns not in seen:
             seen.append(columns)
-            yield '0 0 %s %s %d' % (fields[7], fields[8], fields[11] == '0'), shows, columns
+            yield '0 0 %d %d %d' % (said.kept, said.sweeps, said.settled == 0), shows, columns
 
 
 def cases():

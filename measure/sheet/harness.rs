@@ -1,10 +1,10 @@
-//! Asks the port's reader (crates/sheet, its clauses cut out) and the oracle's (oracle/driver/sheet_file.rs) the same files, and stops at
+//! Asks the port's reader (crates/sheet and crates/lines, their clauses cut out) and the oracle's (oracle/driver/sheet_file.rs) the same files, and stops at
 //! the first on which they disagree. Standard input is a stream of sheet files, each after its length in four bytes.
 #[allow(dead_code)]
 mod sheet_file;
 
+use lines::{FIELDS, LONGEST};
 use sheet::file::{Entry, FileCheck, FileRefusal, Next};
-use sheet::lines::{Fields, LONGEST};
 use sheet_file::{Alternative, Choice, Sheet};
 use std::io::{self, BufReader, Read};
 use std::process::ExitCode;
@@ -130,11 +130,11 @@ fn compare_line(text: &str, write: impl Fn(&mut [u8]) -> usize) -> Result<(), St
 fn compare_refusal(refusal: FileRefusal, theirs: &sheet_file::FileRefusal) -> Result<(), String> {
     agree("file refusal", refusal.number(), theirs.number.into())?;
     agree("entry index", refusal.index() as u64, theirs.index as u64)?;
-    compare_line(&format!("file {} {}\n", theirs.number, theirs.index), |out| sheet::lines::write_file_refusal(refusal, out))
+    compare_line(&format!("file {} {}\n", theirs.number, theirs.index), |out| lines::write_file_refusal(refusal, out))
 }
 
-/// A sheet's line of fields drawn from `seed`: short and long numbers, and those beside a power of ten.
-fn compare_fields(seed: u64) -> Result<(), String> {
+/// A line of as many words as a sheet's, two of them patterns, drawn from `seed`: short and long numbers, and those beside a power of ten.
+fn compare_words(seed: u64) -> Result<(), String> {
     let mut word = seed;
     let mut draw = || {
         word = word.wrapping_mul(6364136223846793005).wrapping_add(1442695040888963407);
@@ -146,26 +146,11 @@ fn compare_fields(seed: u64) -> Result<(), String> {
             _ => word.rotate_left((high % 64) as u32) >> (high / 64 % 64),
         }
     };
-    let n: [u64; 12] = std::array::from_fn(|_| draw());
-    let fields = Fields {
-        index: n[0],
-        refusal: n[1],
-        place: n[2],
-        statistic_bits: n[3],
-        p_bits: n[4],
-        path: n[5],
-        fallback: n[6],
-        kept: n[7],
-        sweeps: n[8],
-        bisections: n[9],
-        evaluations: n[10],
-        settled: n[11],
-    };
-    let text = format!(
-        "{} {} {} {:016x} {:016x} {} {} {} {} {} {} {}\n",
-        n[0], n[1], n[2], n[3], n[4], n[5], n[6], n[7], n[8], n[9], n[10], n[11]
-    );
-    compare_line(&text, |out| sheet::lines::write_line(fields, out))
+    let words: [u64; FIELDS] = std::array::from_fn(|_| draw());
+    let patterns = [3, 4];
+    let shown = |(t, n): (usize, &u64)| if patterns.contains(&t) { format!("{n:016x}") } else { n.to_string() };
+    let text = words.iter().enumerate().map(shown).collect::<Vec<_>>().join(" ") + "\n";
+    compare_line(&text, |out| lines::write_words(&words, &patterns, out))
 }
 
 fn compare_file(file: &[u8], counts: &mut Counts) -> Result<(), String> {
@@ -191,7 +176,7 @@ fn compare_file(file: &[u8], counts: &mut Counts) -> Result<(), String> {
         (FileCheck::Accepted(_), Err(theirs)) => return Err(format!("the port accepts it, the oracle refuses it with {}", theirs.number)),
     }
     let seed = file.iter().fold(file.len() as u64, |h, &b| h.wrapping_mul(257).wrapping_add(b.into()));
-    compare_fields(seed)?;
+    compare_words(seed)?;
     counts.lines += 1;
     [seed % 8, seed % 70, seed].into_iter().try_for_each(|i| compare_any_entry(file, i as usize, seed))
 }
@@ -232,7 +217,7 @@ fn main() -> ExitCode {
             for (number, count) in counts.refused.iter().enumerate().skip(1) {
                 println!("file refusal {number}: {count}");
             }
-            println!("{} lines of drawn fields", counts.lines);
+            println!("{} lines of drawn words", counts.lines);
             ExitCode::SUCCESS
         }
         Err(message) => {

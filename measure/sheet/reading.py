@@ -82,7 +82,7 @@ def printed(label, file):
     lines = []
     for index, (offset, rows, columns, alternative, choice, positions, body) in enumerate(found):
         first = rows * positions  # of the residuals
-        lines.append("%s%d %d %d %016x %016x %d %d %d %d %d 0 0\n" % (
+        lines.append("%s%d %d %d %016x %016x %d %d %d %d %d\n" % (
             head, index, alternative, choice, number_digest(body[first:first + rows]), number_digest(body[first + rows:]), rows, columns, offset,
             positions, digest(body[:first])))
     return "".join(lines)

@@ -86,7 +86,7 @@ def build_kit():
     shutil.copy2(os.path.join(HERE, "tested.rt.in"), os.path.join(KIT, "crates", "tested", "src", "lib.rt"))
     with open(os.path.join(KIT, "crates.txt"), "w", encoding="utf-8") as listed:
         listed.writelines(line for _, line in crates)
-        listed.write("tested: floats elementary autocorrelation design projection tridiagonal ql eigen imhof dwtest\n")
+        listed.write("tested: floats elementary autocorrelation design projection tridiagonal ql eigen imhof outcome dwtest\n")
     logged(["rt", "staticlib", "tested"], "tested.log", KIT)
     run([os.path.join(SPEED, "rustc")] + OPTIMIZED + ["--cfg", "kit", "-L", os.path.join(KIT, "target", "staticlib"),
         "-o", os.path.join(SPEED, "test-kit"), os.path.join(HERE, "test.rs")])
@@ -113,7 +113,7 @@ def build_sources(own):
     out = os.path.join(SPEED, "rust", own + "sources")
     logged([sys.executable, os.path.join(ROOT, "measure", "elementary", "port.py"), "dwtest", out, os.path.join(SPEED, own + "rustc"),
             "-C", "codegen-units=1"], "rust-%ssources.log" % own, ROOT)
-    build_linked(own, "sources", out, ["dwtest", "design"], ["--cfg", "sources"])
+    build_linked(own, "sources", out, ["dwtest", "outcome"], ["--cfg", "sources"])
 
 
 def build(words):

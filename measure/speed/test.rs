@@ -131,8 +131,8 @@ mod side {
         }
 
         pub fn whole(&mut self, s: &Sheet, exact: bool) -> f64 {
-            let choice = if exact { dwtest::Choice::Exact } else { dwtest::Choice::Normal };
-            dwtest::durbin_watson_test(&s.residuals, &s.columns, s.k, design::Alternative::Greater, choice, &mut self.matrix, &mut self.parts).p
+            let choice = if exact { outcome::Choice::Exact } else { outcome::Choice::Normal };
+            dwtest::durbin_watson_test(&s.residuals, &s.columns, s.k, outcome::Alternative::Greater, choice, &mut self.matrix, &mut self.parts).p
         }
     }
 }

@@ -2,7 +2,7 @@
 use crate::sheet_file::{Alternative, Choice, Sheet};
 use counted::record::{self, Record};
 
-/// One line of the sheet program, in the order of its fields.
+/// What a line of the sheet program says, but for the index.
 #[derive(Default)]
 pub struct Line {
     pub refusal: u32,

@@ -1,25 +1,25 @@
 //! What is printed for an entry: the sheet program's line, then the named lines that were asked for.
 use crate::answer::{bits, Line};
+use crate::fields::{self, Field};
 use counted::record::Record;
 use std::io::{self, Write};
 
 /// The sheet program's line, without its newline.
 pub fn line(index: usize, line: &Line) -> String {
-    format!(
-        "{} {} {} {:016x} {:016x} {} {} {} {} {} {} {}",
-        index,
-        line.refusal,
-        line.place,
-        bits(line.statistic),
-        bits(line.p),
-        line.path,
-        u8::from(line.fallback),
-        line.kept,
-        line.sweeps,
-        line.bisections,
-        line.evaluations,
-        u8::from(line.settled),
-    )
+    fields::line(|field| match field {
+        Field::Index => index as u64,
+        Field::Refusal => line.refusal.into(),
+        Field::Place => line.place as u64,
+        Field::Statistic => bits(line.statistic),
+        Field::P => bits(line.p),
+        Field::Path => line.path.into(),
+        Field::Fallback => line.fallback.into(),
+        Field::Kept => line.kept as u64,
+        Field::Sweeps => line.sweeps,
+        Field::Bisections => line.bisections,
+        Field::Evaluations => line.evaluations,
+        Field::Settled => line.settled.into(),
+    })
 }
 
 pub fn print_line(out: &mut impl Write, index: usize, entry: &Line) -> io::Result<()> {

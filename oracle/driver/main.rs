@@ -2,6 +2,7 @@
 mod answer;
 mod calls;
 mod document;
+mod fields; // written by oracle/build, from tools/line.py
 mod lines;
 mod sheet_file;
 mod spectra;

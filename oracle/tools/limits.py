@@ -2,6 +2,7 @@
 
 Each is asked as greater. LINES are their lines, by the oracle's port build as document 01 asks.
 """
+from line import record_of
 from sheetfile import EXACT, GREATER, NORMAL, Entry
 
 T509, T511, T519, T528 = (2.0 ** -j for j in (509, 511, 519, 528))
@@ -36,5 +37,5 @@ def entries():
 
 
 def answered():
-    """Each sheet with the fields of its line."""
-    return [(sheet, line.split()) for sheet, line in zip(SHEETS, LINES.splitlines())]
+    """Each sheet with what its line says, by name."""
+    return list(zip(SHEETS, map(record_of, LINES.splitlines())))

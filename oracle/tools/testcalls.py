@@ -3,6 +3,7 @@
 Most are small, and their residuals are no OLS residuals, so that a million are quickly made. Only +, -, * and / make the numbers: a seed gives
 the same bytes on every machine.
 """
+import collections
 import math
 import random
 import struct
@@ -14,6 +15,9 @@ GREATER, LESS, TWO_SIDED = 0, 1, 2
 DEFAULT, EXACT, NORMAL = 0, 1, 2
 PART_ROOM = 8004
 MOST_MATRIX, MOST_PARTS, MOST_NUMBERS = 131080, 8012, 4096
+# The words that stand behind the sheet program's in the line of a call: n and alternative of the answer, the law's mean and variance by
+# their bits, and what the matrix room and the part room hold.
+Behind = collections.namedtuple("Behind", "n alternative mean variance matrix parts")
 
 
 class Call:

@@ -8,7 +8,7 @@ use native.Mathlib.Omega.{arith}
 use mathlib.Core.Bool.{Bool, true, false, not, _&&_, _||_, cond, Bool·beq}
 use mathlib.Core.List.{List}
 use borrow.Author.Tests.{eqb-false, not-false}
-use lib.Dec.{T, leb, eqb, leb→le, eqb→eq, lit<}
+use lib.Dec.{T, leb, eqb, leb→le, eqb→eq}
 use lib.ListN.{length}
 use lib.Pow.{pow-add, pow-mono, shl-lt}
 use lib.IntN.{ℤ, natAbs, _-ℤ_}
@@ -22,7 +22,7 @@ use Rattle.floats.specs.declared.search.Found.the-variants.{At, Nothing}
 use Rattle.floats.proofs.FirstLaws.{none-at}
 use Rattle.autocorrelation.specs.declared.Statistic.{Statistic}
 use Rattle.autocorrelation.specs.declared.Statistic.the-variants.{Value, Empty, Single, NotFinite, ZeroSum, Overflow}
-use Rattle.autocorrelation.specs.Statistic.{squares, differences, durbinWatson, durbinWatsonAnswer, ofFound, number, value}
+use Rattle.autocorrelation.specs.Statistic.{squares, differences, durbinWatson, durbinWatsonAnswer, ofFound, value}
 use Rattle.autocorrelation.specs.Bound.{exact, sized?, all?}
 use Rattle.autocorrelation.proofs.Units.{Number, number-size, apart-is}
 use Rattle.autocorrelation.proofs.SumLaws.{Among}
@@ -64,19 +64,27 @@ pub record Accepted (e : List Float) (d : Float) : Type 0 where
   pub above : finite (differences e) ≡ true
   pub is : durbinWatson e ≡ d
 
--- a refusal is no value
-refused : (x : Statistic) (d : Float) → 0 < number x → x ≡ Value d → ⊥
-refused x d p h = omega (arith, ap number h)
+-- a reason why there is no statistic is no value
+abbrev isValue : Statistic → ℕ
+isValue (Value d) = 1
+isValue Empty = 0
+isValue Single = 0
+isValue (NotFinite t) = 0
+isValue ZeroSum = 0
+isValue Overflow = 0
 
-past : (b : Bool) (x y : Statistic) (d : Float) → 0 < number x → cond b x y ≡ Value d → (b ≡ false) × (y ≡ Value d)
+refused : (x : Statistic) (d : Float) → isValue x ≡ 0 → x ≡ Value d → ⊥
+refused x d p h = omega (arith, p, ap isValue h)
+
+past : (b : Bool) (x y : Statistic) (d : Float) → isValue x ≡ 0 → cond b x y ≡ Value d → (b ≡ false) × (y ≡ Value d)
 past true x y d p h = absurd (refused x d p h)
 past false x y d p h = (refl, h)
 
 unfound : (f : Found) (e : List Float) (d : Float) → ofFound f e ≡ Value d → f ≡ Nothing
 unfound Nothing e d h = refl
-unfound (At t) e d h = absurd (refused (NotFinite t) d (lit< tt) h)
+unfound (At t) e d h = absurd (refused (NotFinite t) d refl h)
 
-both : (a b : Bool) (x y : Statistic) (d : Float) → 0 < number y → cond (a && b) x y ≡ Value d → (a ≡ true) × (b ≡ true) × (x ≡ Value d)
+both : (a b : Bool) (x y : Statistic) (d : Float) → isValue y ≡ 0 → cond (a && b) x y ≡ Value d → (a ≡ true) × (b ≡ true) × (x ≡ Value d)
 both true true x y d p h = (refl, refl, h)
 both true false x y d p h = absurd (refused y d p h)
 both false b x y d p h = absurd (refused y d p h)
@@ -84,11 +92,11 @@ both false b x y d p h = absurd (refused y d p h)
 pub accepted : (e : List Float) (d : Float) → durbinWatsonAnswer e ≡ Value d → Accepted e d
 unfolding durbinWatsonAnswer
 accepted e d h =
-    let a = past _ Empty _ d (lit< tt) h in
-    let b = past _ Single _ d (lit< tt) (a .1) in
+    let a = past _ Empty _ d refl h in
+    let b = past _ Single _ d refl (a .1) in
     let none : firstBad e ≡ Nothing = unfound (firstBad e) e d (b .1) in
-    let c = past _ ZeroSum _ d (lit< tt) (rw none at (b .1)) in
-    let v = both _ _ _ Overflow d (lit< tt) (c .1) in
+    let c = past _ ZeroSum _ d refl (rw none at (b .1)) in
+    let v = both _ _ _ Overflow d refl (c .1) in
     record {
       many = few (length e) (eqb-false (length e) 0 (a .0)) (eqb-false (length e) 1 (b .0));
       numbers = none;

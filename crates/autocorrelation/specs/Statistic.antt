@@ -1,4 +1,4 @@
--- The Durbin-Watson statistic of a run of residuals e, and what `durbin_watson` answers, refusals with the rest (Durbin and Watson 1950; document 01, refusals 5 to 9).
+-- The Durbin-Watson statistic of a run of residuals e, and what `durbin_watson` answers, or why there is none (Durbin and Watson 1950).
 -- A run is a list of binary64 values, numbered from 0; ⊖, ⊗ and ⊘ round once, and sums run first to last from -0 (crate floats).
 -- Definitions only. Assumes nothing.
 use Prim.Native.Nat.{ℕ, _+_, _-_}
@@ -35,27 +35,11 @@ ofFound Nothing e =
     cond (eq (squares e) plusZero) ZeroSum
     (cond (finite (squares e) && finite (differences e)) (Value (durbinWatson e)) Overflow)
 
--- the first refusal that applies, else the statistic
+-- the first reason why there is none, else the statistic
 unfoldable pub durbinWatsonAnswer : List Float → Statistic
 durbinWatsonAnswer e = cond (eqb (length e) 0) Empty (cond (eqb (length e) 1) Single (ofFound (firstBad e) e))
 
--- document 01's number for an answer, 0 where a statistic is given; its place; and the statistic, +0 where there is none
-abbrev pub number : Statistic → ℕ
-number (Value d) = 0
-number Empty = 5
-number Single = 6
-number (NotFinite t) = 7
-number ZeroSum = 8
-number Overflow = 9
-
-abbrev pub place : Statistic → ℕ
-place (Value d) = 0
-place Empty = 0
-place Single = 0
-place (NotFinite t) = t
-place ZeroSum = 0
-place Overflow = 0
-
+-- the statistic, +0 where there is none
 abbrev pub value : Statistic → Float
 value (Value d) = d
 value Empty = plusZero

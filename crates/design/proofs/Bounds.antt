@@ -1,4 +1,4 @@
--- p by the normal law lies in 0 .. 1. One-sided it is a tail, and those do. Two-sided it is twice an upper tail at a point that is not below the mean, which is at most 1/2. Assumes nothing.
+-- For bounds on p, which is a tail or twice a tail: what the answer of a law that serves tells of the law, that |x| has the sign plus, and that twice a number from 0 to 1/2 is one from 0 to 1. Assumes nothing.
 use mathlib.Core.Path.{_≡_, refl, sym, _∙_, subst}
 use mathlib.Core.Bool.{Bool, true, false, _&&_, _||_, cond, true≢false}
 use Prim.Native.Nat.{ℕ, zero, suc, _+_, _*_, _^_, _≤_, _<_}
@@ -7,25 +7,20 @@ use native.Mathlib.Omega.{arith}
 use lib.IntN.{ℤ}
 use lib.Dec.{ltb, eqb, lit<}
 use lib.Ieee.{Float, nan, inf, fin, binary64, up, down, below, level, round, mul, lt, eq, le, isNan, ofBits}
-use lib.Ieee.Fits.{down-pos, div-fits, mul-fits}
+use lib.Ieee.Fits.{down-pos}
 use lib.Ieee.Exact.{HasValue, round-exact}
 use lib.Ieee.Scale.{finite}
 use borrow.Author.Tests.{ltb-true, eqb-true, lt-ltb}
-use Rattle.floats.specs.Words.{_⊕_, _⊖_, _⊗_, plusZero, one, two}
+use Rattle.floats.specs.Words.{_⊗_, plusZero, one, two}
 use Rattle.floats.specs.Signs.{absOf}
 use Rattle.elementary.specs.declared.NormalLaw.{NormalLaw}
 use Rattle.elementary.specs.Patterns.{half}
-use Rattle.elementary.specs.Tails.{upperTail}
 use Rattle.elementary.specs.Bounds.{Within}
 use Rattle.elementary.proofs.Small.{fraction-within}
-use Rattle.elementary.proofs.Leaning.{difference-number}
-use Rattle.elementary.proofs.Bounds.{tails-within-one, upper-within-half}
-use Rattle.design.specs.Law.{lawFrom, lawAnswer}
-use Rattle.design.specs.Bounds.{PWithinOne, ColumnsPWithinOne}
+use Rattle.design.specs.Law.{lawAnswer}
 use Rattle.design.specs.declared.LawAnswer.{LawAnswer}
 use Rattle.design.specs.declared.LawAnswer.the-variants.{Usable, NotFinite, NotSpread}
-use Rattle.design.specs.declared.Alternative.the-variants.{Greater, Less, TwoSided}
-use Rattle.design.proofs.NotBelow.{Plus, wide, part, not-below}
+use Rattle.design.proofs.NotBelow.{Plus, wide, part}
 
 -- ---- what the answer tells of the law
 never : {b : LawAnswer} {law : NormalLaw} → b ≡ Usable law → (b ≡ Usable law → _≡_ {A = ℕ} 0 1) → ⊥
@@ -41,14 +36,14 @@ usable law found h = go (finite (law .mean)) (finite (law .variance)) (lt plusZe
     go true true false p q r e = absurd (never e (λ e. cc))
     go true true true p q r e = (cc, p, q, r)
 
--- ---- the point as far above the mean as d is from it
-abs-plus : (x : Float) → isNan x ≡ false → Plus (absOf x)
+-- ---- sizes, and numbers that are finite
+pub abs-plus : (x : Float) → isNan x ≡ false → Plus (absOf x)
 unfolding isNan absOf
 abs-plus nan h = absurd (true≢false h)
 abs-plus (inf s) h = wide
 abs-plus (fin s m e) h = part m e
 
-number : (d : Float) → finite d ≡ true → isNan d ≡ false
+pub number : (d : Float) → finite d ≡ true → isNan d ≡ false
 unfolding isNan
 number nan h = absurd (true≢false (sym h))
 number (inf s) h = refl
@@ -114,23 +109,3 @@ twice-within (inf true) w = absurd (true≢false (sym (unfold le lt eq ofBits in
 twice-within (inf false) w = absurd (true≢false (sym (unfold le lt eq ofBits in w .to)))
 twice-within (fin false m e) w = fraction-within (1 * 2 ^ 1 * (m * up e)) (1 * down e) (omega (arith, down-pos e)) (at-most m e (w .to))
 twice-within (fin true m e) w = twice-zero (1 * 2 ^ 1 * (m * up e)) (1 * down e) (omega (arith, down-pos e)) (omega (arith, no-size m e (w .from)))
-
--- ---- p
-pub p-within-one : PWithinOne
-p-within-one law d Greater h m v f =
-    let u = usable law law h in
-    tails-within-one law d (record { mean = u .1; variance = u .2; above = u .3; held = v }) (number d f) .0
-p-within-one law d Less h m v f =
-    let u = usable law law h in
-    tails-within-one law d (record { mean = u .1; variance = u .2; above = u .3; held = v }) (number d f) .1
-p-within-one law d TwoSided h m v f =
-    let u = usable law law h in
-    let far = abs-plus (d ⊖ law .mean) (difference-number d (law .mean) (u .1) (number d f)) in
-    twice-within (upperTail law (law .mean ⊕ absOf (d ⊖ law .mean)))
-    (upper-within-half law (law .mean ⊕ absOf (d ⊖ law .mean)) (record { mean = u .1; variance = u .2; above = u .3; held = v }) (not-below (law .mean) (absOf (d ⊖ law .mean)) (u .1) m far))
-
-pub columns-p-within-one : ColumnsPWithinOne
-unfolding lawFrom
-columns-p-within-one x n k inverse law d a h f =
-    let u = usable (lawFrom x n k inverse) law h in
-    rw (u .0) (p-within-one (lawFrom x n k inverse) d a (rw (u .0) at h) (div-fits binary64 _ _) (mul-fits binary64 _ _) f)

@@ -6,6 +6,7 @@ use Prim.Native.Nat.{ℕ, _*_, _<_}
 use lib.Dec.{ltb}
 use lib.Ieee.{Float}
 use borrow.Author.Tests.{ltb-true}
+use Rattle.floats.specs.Limits.{maxColumns}
 use Rattle.floats.specs.Words.{plusZero}
 use Rattle.floats.specs.Sums.{sumProducts}
 use Rattle.floats.proofs.ListLaws.{sum-same}
@@ -24,11 +25,11 @@ guarded {A} i k a b z h = go (ltb i k) refl
 
 pub row-same : (k : ℕ) (f g : ℕ → Float) → ((j : ℕ) → j < k → f j ≡ g j) → row k f ≡ row k g
 unfolding row
-row-same k f g h = table-same _ _ 8 (λ j l. guarded j k (f j) (g j) plusZero (h j))
+row-same k f g h = table-same _ _ maxColumns (λ j l. guarded j k (f j) (g j) plusZero (h j))
 
 pub matrix-same : (k : ℕ) (f g : ℕ → ℕ → Float) → ((i j : ℕ) → i < k → j < k → f i j ≡ g i j) → matrix k f ≡ matrix k g
 unfolding matrix
-matrix-same k f g h = table-same _ _ 8 (λ i l. guarded i k (row k (f i)) (row k (g i)) zeroRow (λ m. row-same k (f i) (g i) (λ j. h i j m)))
+matrix-same k f g h = table-same _ _ maxColumns (λ i l. guarded i k (row k (f i)) (row k (g i)) zeroRow (λ m. row-same k (f i) (g i) (λ j. h i j m)))
 
 module _ (x : List Float) (n k : ℕ) (d : List Float) (w : Differences x n k d) where
   pub cross-is : matrix k (λ i j. sumProducts x (i * n) d (j * n) n) ≡ crossOf x n k

@@ -11,6 +11,7 @@ use lib.ListN.{length, getD, set, replicate, length-set, length-replicate, getD-
 use lib.Seq.{getD-set-same, getD-set-other, ext-getD}
 use lib.Ieee.{Float, nan}
 use borrow.Author.Tests.{lt-ltb, le-ltb}
+use Rattle.floats.specs.Limits.{maxColumns}
 use Rattle.floats.specs.Words.{plusZero}
 use Rattle.floats.specs.Tables.{table}
 use Rattle.floats.proofs.TableLaws.{length-table, getD-table}
@@ -59,13 +60,13 @@ module _ {A : Type 0} (f : ℕ → A) where
       (λ p h. let b : p < length l = rw (length-fill (length l) l) at h in
       getD-fill (length l) p l d b ∙ rw (lt-ltb p (length l) b, getD-table f (length l) p d b))
 
-  -- the first k of eight
-  pub fill-front : (k : ℕ) (z : A) → fill f k (replicate 8 z) ≡ table (λ j. cond (ltb j k) (f j) z) 8
+  -- the first k of as many as a row has
+  pub fill-front : (k : ℕ) (z : A) → fill f k (replicate maxColumns z) ≡ table (λ j. cond (ltb j k) (f j) z) maxColumns
   fill-front k z =
-      let e = length-fill k (replicate 8 z) ∙ length-replicate 8 z in
-      ext-getD z (fill f k (replicate 8 z)) (table (λ j. cond (ltb j k) (f j) z) 8) (e ∙ sym (length-table (λ j. cond (ltb j k) (f j) z) 8))
-      (λ p h. let b : p < 8 = rw e at h in
-      getD-fill k p (replicate 8 z) z (rw (length-replicate 8 z) b) ∙ rw (getD-replicate 8 p z z b, getD-table (λ j. cond (ltb j k) (f j) z) 8 p z b))
+      let e = length-fill k (replicate maxColumns z) ∙ length-replicate maxColumns z in
+      ext-getD z (fill f k (replicate maxColumns z)) (table (λ j. cond (ltb j k) (f j) z) maxColumns) (e ∙ sym (length-table (λ j. cond (ltb j k) (f j) z) maxColumns))
+      (λ p h. let b : p < maxColumns = rw e at h in
+      getD-fill k p (replicate maxColumns z) z (rw (length-replicate maxColumns z) b) ∙ rw (getD-replicate maxColumns p z z b, getD-table (λ j. cond (ltb j k) (f j) z) maxColumns p z b))
 
 -- the rows and matrices
 pub fill-row : (k : ℕ) (f : ℕ → Float) → fill f k zeroRow ≡ row k f
@@ -77,9 +78,9 @@ unfolding matrix
 fill-matrix k f = fill-front (λ i. row k (f i)) k zeroRow
 
 -- entry (i, j) of a matrix, within its first k rows and columns
-pub entry-matrix : (k : ℕ) (f : ℕ → ℕ → Float) {i j : ℕ} → k ≤ 8 → i < k → j < k → entry (matrix k f) i j ≡ f i j
+pub entry-matrix : (k : ℕ) (f : ℕ → ℕ → Float) {i j : ℕ} → k ≤ maxColumns → i < k → j < k → entry (matrix k f) i j ≡ f i j
 unfolding matrix row
 entry-matrix k f {i} {j} b h g =
-    let p : i < 8 = omega arith in
-    let q : j < 8 = omega arith in
-    rw (getD-table (λ i. cond (ltb i k) (row k (f i)) zeroRow) 8 i [] p, lt-ltb i k h, getD-table (λ j. cond (ltb j k) (f i j) plusZero) 8 j nan q, lt-ltb j k g)
+    let p : i < maxColumns = omega arith in
+    let q : j < maxColumns = omega arith in
+    rw (getD-table (λ i. cond (ltb i k) (row k (f i)) zeroRow) maxColumns i [] p, lt-ltb i k h, getD-table (λ j. cond (ltb j k) (f i j) plusZero) maxColumns j nan q, lt-ltb j k g)

@@ -13,12 +13,11 @@ use Rattle.design.specs.Matrix.{Matrix, finiteMatrix}
 use Rattle.design.specs.Factor.{pivotsOf, factorOf, rowsMade}
 use Rattle.design.specs.Inverse.{inverseFrom}
 use Rattle.design.specs.Difference.{differenceAt}
-use Rattle.design.specs.Law.{lawFrom, lawAnswer, normalP}
+use Rattle.design.specs.Law.{lawFrom, lawAnswer}
 use Rattle.design.specs.declared.SizeAnswer.{SizeAnswer}
 use Rattle.design.specs.declared.Columns.{Columns}
 use Rattle.design.specs.declared.Pivots.{Pivots}
 use Rattle.design.specs.declared.LawAnswer.{LawAnswer}
-use Rattle.design.specs.declared.Alternative.{Alternative}
 
 both : {A : Type 0} {r s t : A} → r ≡ t → s ≡ t → r ≡ s
 both p q = p ∙ sym q
@@ -54,6 +53,3 @@ law-single x n k inverse r s = both
 
 pub law-answer-single : (law : NormalLaw) (r s : LawAnswer) → r ≡ lawAnswer law → s ≡ lawAnswer law → r ≡ s
 law-answer-single law r s = both
-
-pub p-single : (law : NormalLaw) (d : Float) (a : Alternative) (r s : Float) → r ≡ normalP law d a → s ≡ normalP law d a → r ≡ s
-p-single law d a r s = both

@@ -1,4 +1,4 @@
--- The Cholesky factor L of X'X, row by row, and its pivots: refusal 11 of document 01.
+-- The Cholesky factor L of X'X, row by row, and its pivots.
 -- The columns of X are one run x of n rows each: row t of column j is x ‼ (j * n + t). Sums run first to last, from -0.
 -- Definitions only. Assumes nothing.
 use Prim.Native.Nat.{ℕ, _*_}
@@ -74,12 +74,3 @@ pivotsOf x n k = pivotsBy (firstWhere k (failsAt x n))
 abbrev pub rowsMade : ℕ → Pivots → ℕ
 rowsMade k Hold = k
 rowsMade k (Fails i) = i
-
--- document 01's number for it, 0 where nothing is refused, and its place, the column
-abbrev pub pivotsNumber : Pivots → ℕ
-pivotsNumber Hold = 0
-pivotsNumber (Fails i) = 11
-
-abbrev pub pivotsPlace : Pivots → ℕ
-pivotsPlace Hold = 0
-pivotsPlace (Fails i) = i

@@ -1,8 +1,8 @@
--- (X'X)^-1 from the Cholesky factor L: L^-1 row by row, then L^-T L^-1. Refusal 13, stage 1, is an entry that is not finite.
+-- (X'X)^-1 from the Cholesky factor L: L^-1 row by row, then L^-T L^-1.
 -- The columns of X are one run x of n rows each. Sums run first to last, from -0.
 -- Definitions only. Assumes nothing.
 use Prim.Native.Nat.{ℕ, _+_, _-_, max}
-use mathlib.Core.Bool.{Bool, true, false, cond}
+use mathlib.Core.Bool.{cond}
 use mathlib.Core.List.{List}
 use lib.Dec.{ltb}
 use lib.ListN.{set}
@@ -34,12 +34,3 @@ inverseFrom l k = matrix k (squareEntry (lowerInverse l k) k)
 -- (X'X)^-1
 abbrev pub inverseOf : List Float → ℕ → ℕ → Matrix
 inverseOf x n k = inverseFrom (factorOf x n k) k
-
--- document 01's number and place for whether each entry is finite (Matrix's finiteMatrix): stage 1 of refusal 13 where not
-abbrev pub inverseNumber : Bool → ℕ
-inverseNumber true = 0
-inverseNumber false = 13
-
-abbrev pub inversePlace : Bool → ℕ
-inversePlace true = 0
-inversePlace false = 1

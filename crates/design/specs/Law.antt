@@ -1,5 +1,5 @@
--- The normal law of the Durbin-Watson statistic, with the exact null mean and variance by traces (Durbin and Watson, 1971, as in R's dwtest), and p by its tails.
--- The columns of X are one run x of n rows each. Every operation is rounded, in this order; sums run first to last, from -0. Refusals 13, stage 5, and 14 of document 01.
+-- The normal law of the Durbin-Watson statistic, with the exact null mean and variance by traces (Durbin and Watson, 1971, as in R's dwtest).
+-- The columns of X are one run x of n rows each. Every operation is rounded, in this order; sums run first to last, from -0.
 -- Definitions only. Assumes nothing.
 use Prim.Native.Nat.{ℕ, _+_, _*_}
 use mathlib.Core.Bool.{Bool, _&&_, cond}
@@ -10,16 +10,12 @@ use lib.Ieee.{Float, binary64, lt, ofInt}
 use lib.Ieee.Scale.{finite}
 use Rattle.floats.specs.Words.{_⊕_, _⊖_, _⊗_, _⊘_, _‼_, float, plusZero, one, two}
 use Rattle.floats.specs.Sums.{sumOf}
-use Rattle.floats.specs.Signs.{absOf}
 use Rattle.elementary.specs.declared.NormalLaw.{NormalLaw}
-use Rattle.elementary.specs.Tails.{lowerTail, upperTail}
 use Rattle.design.specs.Matrix.{Matrix, matrix, productOf, traceOf}
 use Rattle.design.specs.Inverse.{inverseOf}
 use Rattle.design.specs.Difference.{differenceAt}
 use Rattle.design.specs.declared.LawAnswer.{LawAnswer}
 use Rattle.design.specs.declared.LawAnswer.the-variants.{Usable, NotFinite, NotSpread}
-use Rattle.design.specs.declared.Alternative.{Alternative}
-use Rattle.design.specs.declared.Alternative.the-variants.{Greater, Less, TwoSided}
 
 -- a count as a number, and 3 and 4
 abbrev pub count : ℕ → Float
@@ -75,23 +71,9 @@ abbrev pub lawAnswer : NormalLaw → LawAnswer
 lawAnswer law =
     cond (finite (law .mean) && finite (law .variance)) (cond (lt plusZero (law .variance)) (Usable law) NotSpread) NotFinite
 
--- document 01's number for it, 0 where nothing is refused, and its place
-abbrev pub lawNumber : LawAnswer → ℕ
-lawNumber (Usable law) = 0
-lawNumber NotFinite = 13
-lawNumber NotSpread = 14
+-- with fewer rows no law is worked out
+abbrev pub leastForLaw : ℕ
+leastForLaw = 5
 
-abbrev pub lawPlace : LawAnswer → ℕ
-lawPlace (Usable law) = 0
-lawPlace NotFinite = 5
-lawPlace NotSpread = 0
-
--- with fewer than 5 rows no law is worked out, and p is 1 (path 4)
 abbrev pub tooFewForLaw : ℕ → Bool
-tooFewForLaw n = ltb n 5
-
--- p of the statistic d: for negative autocorrelation the upper tail, for positive the lower, and for either twice the upper tail as far above the mean as d is from it
-abbrev pub normalP : NormalLaw → Float → Alternative → Float
-normalP law d Greater = lowerTail law d
-normalP law d Less = upperTail law d
-normalP law d TwoSided = two ⊗ upperTail law (law .mean ⊕ absOf (d ⊖ law .mean))
+tooFewForLaw n = ltb n leastForLaw

@@ -4,4 +4,3 @@ pub mod Factor
 pub mod Inverse
 pub mod Difference
 pub mod Law
-pub mod Bounds

@@ -1,4 +1,4 @@
--- Matrices of 8 rows of 8 numbers, of which the first k rows and columns are in use, and +0 stands beyond.
+-- Matrices of as many rows and columns as the largest sheet has columns, of which the first k rows and columns are in use, and +0 stands beyond.
 -- A matrix is the list of its rows; rows and columns are counted from 0. Sums run first to last, from -0.
 -- Definitions only. Assumes nothing.
 use Prim.Native.Nat.{ℕ, zero, suc}
@@ -8,6 +8,7 @@ use lib.Dec.{ltb}
 use lib.ListN.{getD, replicate}
 use lib.Ieee.{Float}
 use lib.Ieee.Scale.{finite}
+use Rattle.floats.specs.Limits.{maxColumns}
 use Rattle.floats.specs.Words.{_⊗_, _‼_, plusZero}
 use Rattle.floats.specs.Sums.{sumOf}
 use Rattle.floats.specs.Tables.{table}
@@ -25,17 +26,17 @@ entry a i j = rowAt a i ‼ j
 
 -- +0 throughout
 abbrev pub zeroRow : List Float
-zeroRow = replicate 8 plusZero
+zeroRow = replicate maxColumns plusZero
 
 abbrev pub zeroMatrix : Matrix
-zeroMatrix = replicate 8 zeroRow
+zeroMatrix = replicate maxColumns zeroRow
 
 -- the row with these first k numbers; the matrix with these entries in its first k rows and columns
 unfoldable pub row : ℕ → (ℕ → Float) → List Float
-row k f = table (λ j. cond (ltb j k) (f j) plusZero) 8
+row k f = table (λ j. cond (ltb j k) (f j) plusZero) maxColumns
 
 unfoldable pub matrix : ℕ → (ℕ → ℕ → Float) → Matrix
-matrix k f = table (λ i. cond (ltb i k) (row k (f i)) zeroRow) 8
+matrix k f = table (λ i. cond (ltb i k) (row k (f i)) zeroRow) maxColumns
 
 -- a b
 abbrev pub productOf : ℕ → Matrix → Matrix → Matrix

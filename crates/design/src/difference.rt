@@ -6,6 +6,7 @@ ghost use Rattle.floats.specs.Words.{_‼_};
 ghost use Rattle.floats.specs.Tables.{table, withPart};
 ghost use Rattle.design.specs.Difference.{differenceBefore, differenceAt};
 ghost use Rattle.design.specs.Law.{columnAt, differenceOf};
+use super::SheetSize;
 
 // +0, and the difference of number t with the one before, where there is one.
 fn difference_before(v: &[f64], t: usize) -> f64
@@ -40,11 +41,13 @@ fn difference_column(columns: &[f64], from: usize, n: usize, differences: &mut [
 }
 
 // The columns of A X, laid out as those of X.
-pub fn difference_columns(columns: &[f64], n: usize, k: usize, differences: &mut [f64])
-    requires { ⌜ (k * n ≤ length (now columns)) × (k * n ≤ length (now differences)) ⌝ }
+pub fn difference_columns(columns: &[f64], size: SheetSize, differences: &mut [f64])
+    requires { ⌜ (size .columns * size .rows ≤ length (now columns)) × (size .columns * size .rows ≤ length (now differences)) ⌝ }
     ensures { λ _. ⌜ length (now (differences .exit)) ≡ length (now (differences .entry)) ⌝ }
-    ensures { λ _. ⌜ ((j t : ℕ) → j < k → t < n → columnAt (now (differences .exit)) n j t ≡ differenceOf (now (columns .entry)) n j t) ⌝ }
+    ensures { λ _. ⌜ ((j t : ℕ) → j < size .columns → t < size .rows → columnAt (now (differences .exit)) (size .rows) j t ≡ differenceOf (now (columns .entry)) (size .rows) j t) ⌝ }
 {
+    let n = size.rows;
+    let k = size.columns;
     for j in 0..k {
         difference_column(columns, j * n, n, differences);
     }

@@ -1,5 +1,5 @@
 // What the columns of a sheet alone decide, short of eigenvalues: its size, the checks of its columns,
-// (X'X)^-1 by Cholesky, and the normal law of the Durbin-Watson statistic with its p.
+// (X'X)^-1 by Cholesky, and the normal law of the Durbin-Watson statistic.
 // The k columns of n rows are one run, column after column; residuals do not appear.
 mod cholesky;
 mod difference;
@@ -7,22 +7,22 @@ mod lower;
 mod traces;
 
 ghost use mathlib.Core.Path.{_≡_};
-ghost use Prim.Native.Nat.{_*_, _≤_};
+ghost use Prim.Native.Nat.{_≤_};
 ghost use lib.ListN.{length};
 ghost use Rattle.floats.specs.Words.{_‼_};
 ghost use Rattle.floats.specs.Tables.{table};
-ghost use Rattle.design.specs.Sheet.{sizeOf, runOf, columnsOf, tooFewRows};
+ghost use Rattle.floats.specs.Limits.{maxRows, maxColumns};
+ghost use Rattle.design.specs.Sheet.{sizeOf, runOf, columnsOf, tooFewRows, Design};
 ghost use Rattle.design.specs.Matrix.{finiteMatrix};
 ghost use Rattle.design.specs.Factor.{pivotsOf, factorOf, rowsMade};
 ghost use Rattle.design.specs.Inverse.{inverseFrom};
 ghost use Rattle.design.specs.Difference.{differenceAt};
-ghost use Rattle.design.specs.Law.{lawFrom, lawAnswer, normalP};
+ghost use Rattle.design.specs.Law.{lawFrom, lawAnswer};
 use elementary::NormalLaw;
-use elementary::lower_tail;
-use elementary::upper_tail;
+use floats::limits::MAX_COLUMNS;
+use floats::limits::MAX_ROWS;
 use floats::search::Found;
 use floats::search::first_bad;
-use floats::signs::abs;
 use floats::signs::is_finite;
 use floats::signs::max;
 use roots::sqrt;
@@ -40,17 +40,13 @@ pub enum SizeAnswer {
 }
 
 impl SheetSize {
-    pub const MAX_ROWS: usize = 256;
-
-    pub const MAX_COLUMNS: usize = 8;
-
     pub fn new(n: usize, k: usize) -> SizeAnswer
         ensures { λ r. ⌜ r ≡ sizeOf n k ⌝ }
     {
-        if n > SheetSize::MAX_ROWS {
+        if n > MAX_ROWS {
             return SizeAnswer::TooManyRows;
         }
-        if k > SheetSize::MAX_COLUMNS {
+        if k > MAX_COLUMNS {
             return SizeAnswer::TooManyColumns;
         }
         SizeAnswer::Fits(SheetSize {
@@ -60,14 +56,14 @@ impl SheetSize {
     }
 }
 
-// What the columns are found to be: refusals 1 to 4, or sound.
+// What the columns are found to be: sound, with their size, or what is wrong first.
 pub enum Columns {
     NoColumn,
     RowsOver,
     ColumnsOver,
     WrongLength,
     NotFinite(usize),
-    Sound,
+    Sound(SheetSize),
 }
 
 pub fn check_columns(columns: &[f64], n: usize, k: usize) -> Columns
@@ -86,7 +82,7 @@ pub fn check_columns(columns: &[f64], n: usize, k: usize) -> Columns
 
 // The run of a size that fits: its length, then its numbers.
 fn check_run(columns: &[f64], size: SheetSize) -> Columns
-    requires { ⌜ (size .rows ≤ 256) × (size .columns ≤ 8) ⌝ }
+    requires { ⌜ (size .rows ≤ maxRows) × (size .columns ≤ maxColumns) ⌝ }
     ensures { λ r. ⌜ r ≡ runOf (now (columns .entry)) size ⌝ }
 {
     if columns.len() != size.columns * size.rows {
@@ -95,18 +91,21 @@ fn check_run(columns: &[f64], size: SheetSize) -> Columns
     let bad = first_bad(columns);
     match bad {
         Found::At(t) => Columns::NotFinite(t),
-        Found::Nothing => Columns::Sound,
+        Found::Nothing => Columns::Sound(size),
     }
 }
 
-// Refusal 10: no more rows than columns.
-pub fn too_few_rows(n: usize, k: usize) -> bool
-    ensures { λ r. ⌜ r ≡ tooFewRows n k ⌝ }
+// No more rows than columns: then nothing is left to test.
+pub fn too_few_rows(size: SheetSize) -> bool
+    ensures { λ r. ⌜ r ≡ tooFewRows (size .rows) (size .columns) ⌝ }
 {
-    n <= k
+    size.rows <= size.columns
 }
 
-// Whether all pivots hold, or the first column whose pivot fails, refusal 11. A pivot that is NaN holds.
+// A matrix of k rows and columns, in the first k rows and columns of the largest; +0 stands beyond.
+pub type Matrix = [[f64; MAX_COLUMNS]; MAX_COLUMNS];
+
+// Whether all pivots hold, or the first column whose pivot fails. A pivot that is NaN holds.
 pub enum Pivots {
     Hold,
     Fails(usize),
@@ -117,12 +116,14 @@ const TOLERANCE: f64 = 1e-12;
 const LEAST_NORMAL: f64 = 2.2250738585072014e-308; // 2^-1022
 
 // The Cholesky factor of X'X by rows, as far as the pivots hold; +0 in the rows beyond.
-pub fn factor(columns: &[f64], n: usize, k: usize, l: &mut [[f64; 8]; 8]) -> Pivots
-    requires { ⌜ (k ≤ 8) × (k * n ≡ length (now columns)) ⌝ }
-    ensures { λ r. ⌜ r ≡ pivotsOf (now (columns .entry)) n k ⌝ }
-    ensures { λ r. ⌜ now (l .exit) ≡ factorOf (now (columns .entry)) n (rowsMade k (pivotsOf (now (columns .entry)) n k)) ⌝ }
+pub fn factor(columns: &[f64], size: SheetSize, l: &mut Matrix) -> Pivots
+    requires { ⌜ Design size (now columns) ⌝ }
+    ensures { λ r. ⌜ r ≡ pivotsOf (now (columns .entry)) (size .rows) (size .columns) ⌝ }
+    ensures { λ r. ⌜ now (l .exit) ≡ factorOf (now (columns .entry)) (size .rows) (rowsMade (size .columns) (pivotsOf (now (columns .entry)) (size .rows) (size .columns))) ⌝ }
 {
-    *l = [[0.0f64; 8]; 8];
+    let n = size.rows;
+    let k = size.columns;
+    *l = [[0.0f64; MAX_COLUMNS]; MAX_COLUMNS];
     for i in 0..k {
         let mut row = cholesky::left_of(columns, n, l, i);
         let square = traces::column_products(columns, columns, n, i, i);
@@ -137,21 +138,21 @@ pub fn factor(columns: &[f64], n: usize, k: usize, l: &mut [[f64; 8]; 8]) -> Piv
 }
 
 // (X'X)^-1 = L^-T L^-1 from the factor L of k columns.
-pub fn inverse_of_factor(l: [[f64; 8]; 8], k: usize) -> [[f64; 8]; 8]
-    requires { ⌜ k ≤ 8 ⌝ }
+pub fn inverse_of_factor(l: Matrix, k: usize) -> Matrix
+    requires { ⌜ k ≤ maxColumns ⌝ }
     ensures { λ r. ⌜ r ≡ inverseFrom l k ⌝ }
 {
     let lower = lower::lower_inverse(&l, k);
-    let mut inverse = [[0.0f64; 8]; 8];
+    let mut inverse = [[0.0f64; MAX_COLUMNS]; MAX_COLUMNS];
     for i in 0..k {
         inverse[i] = lower::square_row(&lower, k, i);
     }
     inverse
 }
 
-// Whether each entry of the inverse is finite: where not, refusal 13, place 1.
-pub fn inverse_is_finite(inverse: [[f64; 8]; 8], k: usize) -> bool
-    requires { ⌜ k ≤ 8 ⌝ }
+// Whether each entry of the inverse is finite.
+pub fn inverse_is_finite(inverse: Matrix, k: usize) -> bool
+    requires { ⌜ k ≤ maxColumns ⌝ }
     ensures { λ r. ⌜ r ≡ finiteMatrix k inverse ⌝ }
 {
     for i in 0..k {
@@ -174,20 +175,26 @@ pub fn diff_matrix_times(v: &[f64], av: &mut [f64])
     }
 }
 
-// The statistic's exact null mean and variance, by traces. A X is worked out once; most sheets need little room for it.
-pub fn normal_law(columns: &[f64], n: usize, k: usize, inverse: [[f64; 8]; 8]) -> NormalLaw
-    requires { ⌜ (n ≤ 256) × (k ≤ 8) × (k * n ≡ length (now columns)) ⌝ }
-    ensures { λ r. ⌜ r ≡ lawFrom (now (columns .entry)) n k inverse ⌝ }
+// With fewer rows no law is worked out: that is the caller's.
+pub const LEAST_FOR_LAW: usize = 5;
+
+// How many numbers of A X find room on the stack that is cheap to clear: those of most sheets.
+const LITTLE_ROOM: usize = 256;
+
+// The statistic's exact null mean and variance, by traces. A X is worked out once.
+pub fn normal_law(columns: &[f64], size: SheetSize, inverse: Matrix) -> NormalLaw
+    requires { ⌜ Design size (now columns) ⌝ }
+    ensures { λ r. ⌜ r ≡ lawFrom (now (columns .entry)) (size .rows) (size .columns) inverse ⌝ }
 {
-    if columns.len() <= 256 {
-        let mut room = [0.0f64; 256];
-        return traces::law_in(columns, n, k, &inverse, &mut room);
+    if columns.len() <= LITTLE_ROOM {
+        let mut room = [0.0f64; LITTLE_ROOM];
+        return traces::law_in(columns, size, &inverse, &mut room);
     }
-    let mut room = [0.0f64; 2048];
-    traces::law_in(columns, n, k, &inverse, &mut room)
+    let mut room = [0.0f64; MAX_COLUMNS * MAX_ROWS];
+    traces::law_in(columns, size, &inverse, &mut room)
 }
 
-// Whether the law serves; else refusal 13, place 5, or refusal 14.
+// Whether the law serves, or why not: its mean or its variance is not finite, or its variance is not above 0.
 pub enum LawAnswer {
     Usable(NormalLaw),
     NotFinite,
@@ -207,22 +214,4 @@ pub fn check_law(law: NormalLaw) -> LawAnswer
         return LawAnswer::Usable(law);
     }
     LawAnswer::NotSpread
-}
-
-// Of autocorrelation: positive, negative, or either.
-pub enum Alternative {
-    Greater,
-    Less,
-    TwoSided,
-}
-
-// p by the normal law. With fewer than 5 rows p is 1 and no law is worked out: that is the caller's.
-pub fn normal_p(law: NormalLaw, statistic: f64, alternative: Alternative) -> f64
-    ensures { λ r. ⌜ r ≡ normalP law statistic alternative ⌝ }
-{
-    match alternative {
-        Alternative::Greater => lower_tail(law, statistic),
-        Alternative::Less => upper_tail(law, statistic),
-        Alternative::TwoSided => 2.0 * upper_tail(law, law.mean + abs(statistic - law.mean)),
-    }
 }

@@ -1,22 +1,23 @@
--- Words stored one after another in a run of just as many are what the run then holds. Assumes nothing.
-use Prim.Native.Nat.{ℕ, suc}
+-- The words behind the first, copied one by one into a run of just as many. Assumes nothing.
+use Prim.Native.Nat.{ℕ, suc, _+_, _≤_, _<_}
+use native.Mathlib.Numerals.{add-one, one-add}
 use native.Mathlib.Omega.{arith}
-use mathlib.Core.Path.{_≡_, refl, ap, _∙_}
-use mathlib.Core.List.{List, [], _∷_}
-use lib.ListN.{length, set}
+use mathlib.Core.Path.{_≡_, sym, _∙_}
+use mathlib.Core.List.{List, [], _∷_, _++_, append-assoc, append-nil}
+use lib.ListN.{length, getD, set, take, drop, length-drop, drop-of-length-le}
+use lib.Seq.{drop-cons, take-suc, take-all, getD-drop, set-at, length-take-le}
 
--- l with each word stored in turn, the first at place i
-abbrev pub stored : ℕ → List ℕ → List ℕ → List ℕ
-stored i [] l = l
-stored i (w ∷ ws) l = stored (suc i) ws (set l i w)
+module _ (words l : List ℕ) (fit : length words ≡ length l + 1) where
+  behind-first : length (drop 1 words) ≡ length l
+  behind-first = length-drop 1 words ∙ omega arith
 
--- stores behind the first number leave it
-stored-behind : (i a : ℕ) (ws l : List ℕ) → stored (suc i) ws (a ∷ l) ≡ a ∷ stored i ws l
-stored-behind i a [] l = refl
-stored-behind i a (w ∷ ws) l = stored-behind (suc i) a ws (set l i w)
+  pub copied-more : (t : ℕ) → t < length l → set (take t (drop 1 words) ++ drop t l) t (getD words (t + 1) 0) ≡ take (t + 1) (drop 1 words) ++ drop (t + 1) l
+  copied-more t h =
+      let s = drop 1 words in
+      let k : t < length s = rw behind-first h in
+      let w : getD words (t + 1) 0 ≡ getD s t 0 = rw (add-one t, ← one-add t) (sym (getD-drop 1 words t 0)) in
+      rw (w, add-one t, drop-cons l t 0 h, take-suc s t 0 k, append-assoc (take t s) (getD s t 0 ∷ []) (drop (suc t) l))
+      (set-at (take t s) (getD l t 0) (drop (suc t) l) (getD s t 0) t (length-take-le t s (omega arith)))
 
-pub stored-all : (ws l : List ℕ) → length l ≡ length ws → stored 0 ws l ≡ ws
-stored-all [] [] h = refl
-stored-all [] (a ∷ l) h = absurd (omega (arith, h))
-stored-all (w ∷ ws) [] h = absurd (omega (arith, h))
-stored-all (w ∷ ws) (a ∷ l) h = stored-behind 0 w ws l ∙ ap {B = List ℕ} (λ r. w ∷ r) (stored-all ws l (omega (arith, h)))
+  pub copied-all : (t : ℕ) → length l ≤ t → take t (drop 1 words) ++ drop t l ≡ drop 1 words
+  copied-all t h = rw (take-all t (drop 1 words) (rw behind-first h), drop-of-length-le l {i = t} h) (append-nil (drop 1 words))

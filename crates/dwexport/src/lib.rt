@@ -1,15 +1,12 @@
 // The test for callers in C or Rust: numbers and runs only. link/dwexport.h says the same for C.
-use fields::alternative_of;
-use fields::choice_of;
-use fields::fields_of;
-use sheet::lines::Fields;
+use lines::WORDS;
+use lines::fields_of;
+use outcome::alternative_of;
+use outcome::choice_of;
 ghost use mathlib.Core.Path.{_≡_};
-ghost use lib.ListN.{length};
-ghost use Rattle.fields.specs.Answer.{wordsOf};
+ghost use Prim.Native.Nat.{_+_};
+ghost use lib.ListN.{length, drop};
 ghost use Rattle.dwexport.specs.Call.{statusOf, resultOf, matrixAfter, partsAfter};
-
-// How many words a result has.
-const WORDS: usize = 11;
 
 // Why a call is not answered, or 0.
 fn status(words: usize, alternative: u32, choice: u32) -> u32
@@ -27,26 +24,19 @@ fn status(words: usize, alternative: u32, choice: u32) -> u32
     0
 }
 
-fn put_words(fields: Fields, result: &mut [u64])
-    requires { ⌜ length (now result) ≡ 11 ⌝ }
-    ensures { λ _. ⌜ now (result .exit) ≡ wordsOf fields ⌝ }
+// Puts the words behind the first into a run of just as many.
+fn put_words(words: &[u64], result: &mut [u64])
+    requires { ⌜ length (now words) ≡ length (now result) + 1 ⌝ }
+    ensures { λ _. ⌜ now (result .exit) ≡ drop 1 (now (words .entry)) ⌝ }
 {
-    result[0] = fields.refusal;
-    result[1] = fields.place;
-    result[2] = fields.statistic_bits;
-    result[3] = fields.p_bits;
-    result[4] = fields.path;
-    result[5] = fields.fallback;
-    result[6] = fields.kept;
-    result[7] = fields.sweeps;
-    result[8] = fields.bisections;
-    result[9] = fields.evaluations;
-    result[10] = fields.settled;
+    for t in 0..result.len() {
+        result[t] = words[t + 1];
+    }
 }
 
 // The Durbin-Watson test of the residuals and of the k columns, which stand one after another in `columns`. Codes: alternative 0 greater, 1 less, 2
 // two-sided; choice 0 default, 1 exact, 2 normal. Answers 0, and `result` holds the fields of the sheet program's line from the refusal on, one word
-// each. Else `result` and both rooms stay as they were: 1 `result` has not 11 words, 2 no such alternative, 3 no such choice.
+// each. Else `result` and both rooms stay as they were: 1 `result` has not WORDS words, 2 no such alternative, 3 no such choice.
 #[no_mangle]
 pub extern "C" fn dwexport_test(
     residuals: &[f64],
@@ -71,11 +61,12 @@ pub extern "C" fn dwexport_test(
         residuals,
         columns,
         k,
-        alternative_of(alternative as u8),
-        choice_of(choice as u8),
+        alternative_of(alternative as u64),
+        choice_of(choice as u64),
         matrix,
         parts,
     );
-    put_words(fields_of(0, outcome), result);
+    let words = fields_of(0, outcome);
+    put_words(&words, result);
     0
 }

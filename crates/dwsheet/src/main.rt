@@ -1,57 +1,64 @@
 // The sheet program: a sheet file on standard input, one line a sheet on standard output; or the one line of a file refusal. The file is read whole, up to
 // one byte past the largest, before anything is printed. Where a read fails there is a message on standard error, and nothing is printed;
 // where a write fails, a message, and no more lines.
-use fields::alternative_of;
-use fields::choice_of;
-use fields::fields_of;
+use imhof::PART_ROOM;
 use libc::STDERR_FILENO;
 use libc::STDIN_FILENO;
 use libc::STDOUT_FILENO;
+use lines::LONGEST;
+use outcome::Outcome;
+use outcome::alternative_of;
+use outcome::choice_of;
 use sheet::file::Entry;
 use sheet::file::FileCheck;
 use sheet::file::FileRefusal;
+use sheet::file::LARGEST;
+use sheet::file::MOST_NUMBERS;
 use sheet::file::Next;
-use sheet::lines::Fields;
 ghost use mathlib.Core.Path.{_≡_};
-ghost use Prim.Native.Nat.{_*_, _≤_};
+ghost use Prim.Native.Nat.{_+_, _*_, _≤_};
 ghost use lib.ListN.{length};
 ghost use Rattle.io.specs.Counts.{Counts};
-ghost use Rattle.sheet.specs.Contents.{bodyEnd};
+ghost use Rattle.sheet.specs.Contents.{largestFile, mostNumbers, bodyEnd};
 ghost use Rattle.sheet.specs.Tiling.{Tiled};
 
 // Each answers whether the whole line was written.
-fn print_line(fields: Fields) -> bool {
-    let mut out = [0u8; 244];
-    let n = sheet::lines::write_line(fields, &mut out);
+fn print_line(i: usize, outcome: Outcome) -> bool {
+    let mut out = [0u8; LONGEST];
+    let n = lines::write_line(i, outcome, &mut out);
     io::write_all(STDOUT_FILENO, &out[..n])
 }
 
 fn print_refusal(refusal: FileRefusal) -> bool {
-    let mut out = [0u8; 244];
-    let n = sheet::lines::write_file_refusal(refusal, &mut out);
+    let mut out = [0u8; LONGEST];
+    let n = lines::write_file_refusal(refusal, &mut out);
     io::write_all(STDOUT_FILENO, &out[..n])
 }
 
-// Matrix room for 64 rows and full part room are lent: an exact sheet with more rows meets refusal 12.
+// Matrix room is lent for so many rows, and full part room: an exact sheet with more rows meets refusal 12.
+const ROWS: usize = 64;
+
+const MATRIX_ROOM: usize = ROWS * (ROWS + 1);
+
 fn test_entry(file: &[u8], i: usize, e: Entry) -> bool
-    requires { ⌜ (bodyEnd e ≤ length (now file)) × (e .rows ≤ 8192) × (e .rows * e .columns ≤ 8192) ⌝ }
+    requires { ⌜ (bodyEnd e ≤ length (now file)) × (e .rows ≤ mostNumbers) × (e .rows * e .columns ≤ mostNumbers) ⌝ }
 {
-    let mut residuals = [0.0f64; 8192];
-    let mut columns = [0.0f64; 8192];
-    let mut matrix = [0.0f64; 4160];
-    let mut parts = [0.0f64; 8004];
+    let mut residuals = [0.0f64; MOST_NUMBERS];
+    let mut columns = [0.0f64; MOST_NUMBERS];
+    let mut matrix = [0.0f64; MATRIX_ROOM];
+    let mut parts = [0.0f64; PART_ROOM];
     let n = sheet::file::read_residuals(file, e, &mut residuals);
     let m = sheet::file::read_columns(file, e, &mut columns);
     let outcome = dwtest::durbin_watson_test(
         &residuals[..n],
         &columns[..m],
         e.columns as usize,
-        alternative_of(e.alternative),
-        choice_of(e.choice),
+        alternative_of(e.alternative as u64),
+        choice_of(e.choice as u64),
         &mut matrix,
         &mut parts,
     );
-    print_line(fields_of(i, outcome))
+    print_line(i, outcome)
 }
 
 fn test_entries(file: &[u8], count: usize) -> bool
@@ -75,10 +82,10 @@ fn test_file(file: &[u8]) -> bool {
 }
 
 // The largest file, and one byte more.
-fn room() -> [u8; 65_537]
-    ensures { λ r. ⌜ 65537 ≡ length r ⌝ }
+fn room() -> [u8; LARGEST + 1]
+    ensures { λ r. ⌜ largestFile + 1 ≡ length r ⌝ }
 {
-    [0; 65_537]
+    [0; LARGEST + 1]
 }
 
 // What was read: the first `size` bytes of the room, and whether a read failed before the input's end.

@@ -1,3 +1,3 @@
 pub mod RoomLaws
-pub mod SheetLaws
+pub mod KeptLaws
 pub mod TestLaws

@@ -1,14 +1,14 @@
--- A room, number by number set to one value: what one store more makes of it. And how large a matrix room can be. Assumes nothing.
+-- A room, number by number set to one value: what one store more makes of it; and a room that was worked in and then cleared. Assumes nothing.
 use mathlib.Core.Path.{_≡_, refl, ap, _∙_}
-use Prim.Native.Nat.{ℕ, zero, suc, _+_, _≤_, _<_}
-use native.Mathlib.Nat.{mul-le-mul}
+use mathlib.Core.Bool.{Bool, true, false}
+use Prim.Native.Nat.{ℕ, zero, suc, _+_, _<_}
 use native.Mathlib.Numerals.{add-one}
-use native.Mathlib.Omega.{arith}
 use mathlib.Core.List.{List, _∷_, _++_}
 use lib.ListN.{length, drop, set, getD, replicate, length-replicate}
 use lib.Seq.{drop-cons, set-at}
 use lib.Ieee.{Float, nan}
-use Rattle.dwtest.specs.Test.{roomOf}
+use Rattle.floats.specs.Words.{plusZero}
+use Rattle.outcome.specs.Rooms.{clearedOf}
 
 replicate-more : (z : Float) (n : ℕ) (r : List Float) → replicate n z ++ (z ∷ r) ≡ replicate (suc n) z ++ r
 replicate-more z zero r = refl
@@ -18,6 +18,10 @@ pub clear-next : (z : Float) (l : List Float) (t : ℕ) → t < length l → set
 clear-next z l t h =
     rw (drop-cons l t nan h, add-one t) (set-at (replicate t z) (getD l t nan) (drop (suc t) l) z t (length-replicate t z) ∙ replicate-more z t (drop (suc t) l))
 
--- 256 rows at most want 65,792 numbers of matrix room at most
-pub room-small : (n : ℕ) → n ≤ 256 → roomOf n ≤ 65792
-room-small n h = let g : n + 1 ≤ 257 = omega arith in mul-le-mul h g
+-- a room that is not used stays
+pub untouched : (b : Bool) (m : ℕ) (room : List Float) → b ≡ false → room ≡ clearedOf b m room
+untouched b m room h = rw h
+
+-- one whose numbers from m on were kept is, cleared, as if it had been cleared at once
+pub wiped : (m : ℕ) (room used end : List Float) → end ≡ replicate m plusZero ++ drop m used → drop m used ≡ drop m room → end ≡ clearedOf true m room
+wiped m room used end e s = e ∙ rw s

@@ -1,37 +1,62 @@
 -- The test, case by case: which check refuses, or which path answers, and whether the rooms are used. Each case is one law that names its conditions.
 -- `wanted` is how many numbers of matrix room n rows want. Assumes nothing.
-use mathlib.Core.Path.{_≡_, refl, sym, _∙_}
-use mathlib.Core.Bool.{Bool, true, false}
+use mathlib.Core.Path.{_≡_, refl, sym, ap}
+use mathlib.Core.Bool.{Bool, true, false, cond, true≢false}
 use Prim.Native.Nat.{ℕ}
-use mathlib.Core.List.{List, _++_}
+use mathlib.Core.List.{List}
 use lib.Dec.{ltb}
-use lib.ListN.{length, take, drop, replicate}
-use lib.Seq.{take-at}
+use lib.ListN.{length}
 use lib.Ieee.{Float}
-use Rattle.floats.specs.Words.{one, plusZero}
-use Rattle.floats.specs.Count.{noWork}
+use Rattle.floats.specs.Words.{one}
 use Rattle.autocorrelation.specs.Statistic.{durbinWatsonAnswer, value}
 use Rattle.autocorrelation.specs.declared.Statistic.{Statistic}
 use Rattle.design.specs.Sheet.{columnsOf}
 use Rattle.design.specs.Matrix.{Matrix}
 use Rattle.design.specs.Factor.{pivotsOf}
 use Rattle.design.specs.Inverse.{inverseOf}
-use Rattle.design.specs.declared.Alternative.{Alternative}
 use Rattle.design.specs.declared.Columns.{Columns}
 use Rattle.design.specs.declared.Pivots.{Pivots}
 use Rattle.design.specs.declared.Pivots.the-variants.{Hold}
-use Rattle.dwtest.specs.Refusals.{passes, firstOf, columnsRefusal, statisticRefusal, rowsRefusal, pivotsRefusal, inverseRefusal, roomRefusal}
-use Rattle.dwtest.specs.Result.{refusedOf, acceptedOf, wantsExact, noLaw}
-use Rattle.dwtest.specs.Paths.{normalPath, exactPath, direct}
-use Rattle.dwtest.specs.Test.{designOf, designTouches, testWith, touchedWith, clearedOf}
-use Rattle.dwtest.specs.declared.Outcome.{Outcome}
-use Rattle.dwtest.specs.declared.Choice.{Choice}
-use Rattle.imhof.specs.Imhof.{imhofOf}
+use Rattle.outcome.specs.Refusals.{passes, firstOf, columnsRefusal, statisticRefusal, rowsRefusal, pivotsRefusal, inverseRefusal, roomRefusal}
+use Rattle.outcome.specs.Result.{leastRows, fewRows, wantsExact, noLaw, direct, refusedOf, acceptedOf}
+use Rattle.outcome.specs.declared.Alternative.{Alternative}
+use Rattle.outcome.specs.declared.Asked.{Asked}
+use Rattle.outcome.specs.declared.Choice.{Choice}
+use Rattle.outcome.specs.declared.Outcome.{Outcome}
+use Rattle.outcome.proofs.PassLaws.{inverse-alone}
+use Rattle.dwtest.specs.Layout.{designChecks, layoutFrom, layoutOf}
+use Rattle.dwtest.specs.Verdict.{normalPath, exactPath}
+use Rattle.dwtest.specs.declared.Way.the-variants.{Few, NoRoom, Exact, Normal}
+use Rattle.dwtest.specs.Test.{asking, isExact, wayOf, answerOf, designOf, designTouches, testWith, touchedWith}
 
-module _ (wanted : ℕ → ℕ) (x : List Float) (n k : ℕ) (d : Float) (alternative : Alternative) (choice : Choice) (matrixRoom partRoom : ℕ) where
+-- past the pivots the columns' refusal is the inverse's
+pub past-pivots : (x : List Float) (n k : ℕ) → pivotsOf x n k ≡ Hold → firstOf (designChecks x n k) ≡ inverseRefusal k (inverseOf x n k)
+unfolding firstOf
+past-pivots x n k h = rw h (inverse-alone k (inverseOf x n k))
+
+-- the exact way has room
+pub exact-has-room : (wanted : ℕ → ℕ) (n : ℕ) (choice : Choice) (matrix parts : ℕ) → wayOf wanted n choice matrix parts ≡ Exact → passes (roomRefusal (wanted n) matrix parts) ≡ true
+exact-has-room wanted n choice matrix parts h = go (ltb n leastRows) (wantsExact choice n) (passes (roomRefusal (wanted n) matrix parts)) h
+  where
+    go : (f w r : Bool) → cond f Few (cond w (cond r Exact (NoRoom (roomRefusal (wanted n) matrix parts))) Normal) ≡ Exact → r ≡ true
+    go true w r e = absurd (true≢false (sym (ap isExact e)))
+    go false false r e = absurd (true≢false (sym (ap isExact e)))
+    go false true false e = absurd (true≢false (sym (ap isExact e)))
+    go false true true e = refl
+
+module _ (wanted : ℕ → ℕ) (x : List Float) (n k : ℕ) (asked : Asked) (choice : Choice) (matrix parts : ℕ) where
   -- what the columns and the statistic decide, and whether that uses the rooms
   abbrev pub Decided : Outcome → Bool → Type 0
-  Decided o used = (designOf wanted x n k d alternative choice matrixRoom partRoom ≡ o) × (designTouches wanted x n k choice matrixRoom partRoom ≡ used)
+  Decided o used = (designOf wanted x n k asked choice matrix parts ≡ o) × (designTouches wanted x n k choice matrix parts ≡ used)
+
+  -- the columns are refused, or they pass
+  pub design-refused : passes (firstOf (designChecks x n k)) ≡ false → Decided (refusedOf (firstOf (designChecks x n k))) false
+  unfolding designOf
+  design-refused q = rw q (refl, refl)
+
+  pub design-passes : passes (firstOf (designChecks x n k)) ≡ true → Decided (answerOf wanted n (layoutOf x n k) asked choice matrix parts) (isExact (wayOf wanted n choice matrix parts))
+  unfolding designOf
+  design-passes q = rw q (refl, refl)
 
   -- 11
   pub pivot-fails : (p : Pivots) → pivotsOf x n k ≡ p → passes (pivotsRefusal p) ≡ false → Decided (refusedOf (pivotsRefusal p)) false
@@ -46,30 +71,31 @@ module _ (wanted : ℕ → ℕ) (x : List Float) (n k : ℕ) (d : Float) (altern
 
     module _ (q : passes (inverseRefusal k i) ≡ true) where
       -- path 1
-      pub too-few : ltb n 3 ≡ true → Decided (acceptedOf d one alternative n 1 false 0 noWork true noLaw) false
+      pub too-few : ltb n leastRows ≡ true → Decided (acceptedOf asked one fewRows direct noLaw) false
       unfolding designOf firstOf
       too-few r = rw (hold, inv, q, r) (refl, refl)
 
       -- paths 3 and 4
-      pub by-normal : ltb n 3 ≡ false → wantsExact choice n ≡ false → Decided (normalPath x n k i d alternative direct) false
-      unfolding designOf firstOf
+      pub by-normal : ltb n leastRows ≡ false → wantsExact choice n ≡ false → Decided (normalPath (layoutFrom x n k i) asked direct) false
+      unfolding designOf normalPath firstOf
       by-normal r w = rw (hold, inv, q, r, w) (refl, refl)
 
       -- 12
-      pub no-room : ltb n 3 ≡ false → wantsExact choice n ≡ true → passes (roomRefusal (wanted n) matrixRoom partRoom) ≡ false
-          → Decided (refusedOf (roomRefusal (wanted n) matrixRoom partRoom)) false
+      pub no-room : ltb n leastRows ≡ false → wantsExact choice n ≡ true → passes (roomRefusal (wanted n) matrix parts) ≡ false
+          → Decided (refusedOf (roomRefusal (wanted n) matrix parts)) false
       unfolding designOf firstOf
-      no-room r w m = rw (hold, inv, q, r, w, m, m) (refl, refl)
+      no-room r w m = rw (hold, inv, q, r, w, m) (refl, refl)
 
       -- path 2
-      pub by-exact : ltb n 3 ≡ false → wantsExact choice n ≡ true → passes (roomRefusal (wanted n) matrixRoom partRoom) ≡ true → Decided (exactPath x n k i d alternative) true
-      unfolding designOf firstOf
+      pub by-exact : ltb n leastRows ≡ false → wantsExact choice n ≡ true → passes (roomRefusal (wanted n) matrix parts) ≡ true
+          → Decided (exactPath (layoutFrom x n k i) asked) true
+      unfolding designOf exactPath firstOf
       by-exact r w m = rw (hold, inv, q, r, w, m) (refl, refl)
 
-module _ (wanted : ℕ → ℕ) (e x : List Float) (k : ℕ) (alternative : Alternative) (choice : Choice) (matrixRoom partRoom : ℕ) where
+module _ (wanted : ℕ → ℕ) (e x : List Float) (k : ℕ) (alternative : Alternative) (choice : Choice) (matrix parts : ℕ) where
   -- what the test answers, and whether it uses the rooms
   abbrev pub Tested : Outcome → Bool → Type 0
-  Tested o used = (testWith wanted e x k alternative choice matrixRoom partRoom ≡ o) × (touchedWith wanted e x k choice matrixRoom partRoom ≡ used)
+  Tested o used = (testWith wanted e x k alternative choice matrix parts ≡ o) × (touchedWith wanted e x k choice matrix parts ≡ used)
 
   -- 1 to 4
   pub columns-refused : (c : Columns) → columnsOf x (length e) k ≡ c → passes (columnsRefusal c) ≡ false → Tested (refusedOf (columnsRefusal c)) false
@@ -90,18 +116,6 @@ module _ (wanted : ℕ → ℕ) (e x : List Float) (k : ℕ) (alternative : Alte
 
       -- what the columns and the statistic decide
       pub runs-pass : passes (rowsRefusal (length e) k) ≡ true
-          → Tested (designOf wanted x (length e) k (value s) alternative choice matrixRoom partRoom) (designTouches wanted x (length e) k choice matrixRoom partRoom)
+          → Tested (designOf wanted x (length e) k (asking (value s) alternative (length e)) choice matrix parts) (designTouches wanted x (length e) k choice matrix parts)
       unfolding testWith touchedWith firstOf
       runs-pass m = rw (h, q, g, r, m) (refl, refl)
-
--- ---- the rooms
-
-pub untouched : (b : Bool) (m : ℕ) (room : List Float) → b ≡ false → room ≡ clearedOf b m room
-untouched b m room h = rw h
-
-pub wiped : (b : Bool) (m : ℕ) (room used end : List Float) → b ≡ true → end ≡ replicate m plusZero ++ drop m used → drop m used ≡ drop m room → end ≡ clearedOf b m room
-wiped b m room used end h e s = e ∙ rw (h, s)
-
--- the front of the kept numbers is what Imhof's step is asked
-pub front : (kept numbers rest : List Float) (count : ℕ) (d : Float) → kept ≡ numbers ++ rest → count ≡ length numbers → imhofOf (take count kept) d .answer ≡ imhofOf numbers d .answer
-front kept numbers rest count d e h = rw (e, take-at numbers rest count (sym h))

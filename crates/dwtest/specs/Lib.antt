@@ -1,4 +1,3 @@
-pub mod Refusals
-pub mod Result
-pub mod Paths
+pub mod Layout
+pub mod Verdict
 pub mod Test

@@ -1,54 +1,67 @@
-// The Durbin-Watson test for first-order autocorrelation of regression residuals, as R's
-// `lmtest::dwtest`: the order of the checks, the paths to p, the result and the two lent rooms.
-// The steps stand in the crates below; residuals meet columns only here.
+// The Durbin-Watson test for first-order autocorrelation of regression residuals, as R's `lmtest::dwtest`: the order of the
+// checks, what the columns decide, what the statistic decides from it, and the two lent rooms. The steps stand in the crates
+// below; residuals meet columns only here.
 ghost use mathlib.Core.Path.{_≡_};
+ghost use mathlib.Core.Bool.{true};
 ghost use mathlib.Core.List.{_++_};
-ghost use Prim.Native.Nat.{_*_, _≤_, _<_};
+ghost use Prim.Native.Nat.{_≤_, _<_};
 ghost use lib.ListN.{length, drop, replicate};
 ghost use Rattle.floats.specs.Words.{plusZero};
-ghost use Rattle.dwtest.specs.Test.{roomOf, designOf, designTouches, testOf, touched, clearedOf};
+ghost use Rattle.floats.specs.Limits.{maxRows};
+ghost use Rattle.design.specs.Sheet.{Design};
+ghost use Rattle.imhof.specs.Room.{PartRoom};
+ghost use Rattle.outcome.specs.Rooms.{roomOf, partRoom, clearedOf};
+ghost use Rattle.dwtest.specs.Layout.{layoutFrom};
+ghost use Rattle.dwtest.specs.Verdict.{bySpectrum};
+ghost use Rattle.dwtest.specs.Test.{wayOf, isExact, saidBy, designOf, designTouches, testOf, touched};
 
-mod checks;
-mod paths;
+mod layout;
+mod verdict;
 
-use design::Alternative;
-use elementary::NormalLaw;
-use floats::tally::Tally;
-use paths::Leaving;
-use paths::refused;
+use design::Matrix;
+use design::SheetSize;
+use floats::limits::MAX_COLUMNS;
+use floats::limits::MAX_ROWS;
+use outcome::Alternative;
+use outcome::Asked;
+use outcome::Choice;
+use outcome::FEW_ROWS;
+use outcome::LEAST_ROWS;
+use outcome::Outcome;
+use outcome::Refusal;
+use outcome::accepted;
+use outcome::direct;
+use outcome::no_law;
+use outcome::refusals;
+use outcome::refused;
+use outcome::rooms::matrix_room;
+use outcome::wants_exact;
+use verdict::Said;
 
-// Exact by default below 100 rows, else normal.
-pub enum Choice {
-    Default,
+// Which way a sheet goes once its columns are checked: too few rows to work anything out, rooms that do not suffice, exact or normal.
+enum Way {
+    Few,
+    NoRoom(Refusal),
     Exact,
     Normal,
 }
 
-// Document 01's number and place of a refusal; 0 and 0 where nothing is refused.
-pub struct Refusal {
-    pub number: usize,
-    pub place: usize,
-}
-
-// What the test answers. A refusal holds its number, its place and zeros.
-pub struct Outcome {
-    pub refusal: Refusal,
-    pub statistic: f64,
-    pub p: f64,
-    pub alternative: Alternative,
-    pub n: usize,
-    // 0 none, 1 fewer than three rows, 2 exact, 3 normal, 4 normal with fewer than five rows
-    pub path: usize,
-    // the exact path gave no value, and path 3 or 4 answered
-    pub fallback: bool,
-    // eigenvalues kept
-    pub kept: usize,
-    pub work: Tally,
-    // accepted; no index of the QL step still had a coupling left after its 60 sweeps; and where an integral was needed,
-    // the final sum of its errors is at most 5e-12
-    pub settled: bool,
-    // zero where it was not used
-    pub law: NormalLaw,
+// The way of n rows by the choice and the lengths of the rooms.
+fn way_of(n: usize, choice: Choice, matrix: usize, parts: usize) -> Way
+    requires { ⌜ n ≤ maxRows ⌝ }
+    ensures { λ r. ⌜ r ≡ wayOf roomOf n choice matrix parts ⌝ }
+{
+    if n < LEAST_ROWS {
+        return Way::Few;
+    }
+    if !wants_exact(choice, n) {
+        return Way::Normal;
+    }
+    let rooms = refusals::of_rooms(n, matrix, parts);
+    if rooms.number != 0 {
+        return Way::NoRoom(rooms);
+    }
+    Way::Exact
 }
 
 // The first m numbers of a room to +0.
@@ -61,67 +74,80 @@ fn clear(room: &mut [f64], m: usize)
     }
 }
 
-// A sheet whose runs are checked, from refusal 11 on.
+// The exact way: the eigenvalues, which the columns decide, then what the statistic makes of them. Both rooms are cleared.
+fn exact(
+    columns: &[f64],
+    size: SheetSize,
+    inverse: Matrix,
+    asked: Asked,
+    matrix: &mut [f64],
+    parts: &mut [f64],
+) -> Said
+    requires { ⌜ (Design size (now columns)) × (size .columns < size .rows) × (roomOf (size .rows) ≤ length (now matrix)) × (PartRoom (now parts)) ⌝ }
+    ensures { λ r. ⌜ r ≡ bySpectrum (layoutFrom (now (columns .entry)) (size .rows) (size .columns) inverse .spectrum) (layoutFrom (now (columns .entry)) (size .rows) (size .columns) inverse .kept) asked ⌝ }
+    ensures { λ _. ⌜ now (matrix .exit) ≡ clearedOf true (roomOf (size .rows)) (now (matrix .entry)) ⌝ }
+    ensures { λ _. ⌜ now (parts .exit) ≡ clearedOf true partRoom (now (parts .entry)) ⌝ }
+{
+    let mut kept = [0.0f64; MAX_ROWS];
+    let spectrum = eigen::ma_eigenvalues(columns, size, inverse, matrix, &mut kept);
+    let said = verdict::by_spectrum(spectrum, &kept, asked, parts);
+    clear(matrix, matrix_room(size.rows));
+    clear(parts, imhof::PART_ROOM);
+    said
+}
+
+// What is said before any law is worked out: an answer, or that the law is due.
+fn said_of(
+    columns: &[f64],
+    size: SheetSize,
+    inverse: Matrix,
+    asked: Asked,
+    choice: Choice,
+    matrix: &mut [f64],
+    parts: &mut [f64],
+) -> Said
+    requires { ⌜ (Design size (now columns)) × (size .columns < size .rows) ⌝ }
+    ensures { λ r. ⌜ r ≡ saidBy (wayOf roomOf (size .rows) choice (length (now (matrix .entry))) (length (now (parts .entry)))) (layoutFrom (now (columns .entry)) (size .rows) (size .columns) inverse) asked ⌝ }
+    ensures { λ _. ⌜ now (matrix .exit) ≡ clearedOf (isExact (wayOf roomOf (size .rows) choice (length (now (matrix .entry))) (length (now (parts .entry))))) (roomOf (size .rows)) (now (matrix .entry)) ⌝ }
+    ensures { λ _. ⌜ now (parts .exit) ≡ clearedOf (isExact (wayOf roomOf (size .rows) choice (length (now (matrix .entry))) (length (now (parts .entry))))) partRoom (now (parts .entry)) ⌝ }
+{
+    let way = way_of(size.rows, choice, matrix.len(), parts.len());
+    match way {
+        Way::Few => Said::Answered(accepted(asked, 1.0, FEW_ROWS, direct(), no_law())),
+        Way::NoRoom(why) => Said::Answered(refused(why)),
+        Way::Exact => exact(columns, size, inverse, asked, matrix, parts),
+        Way::Normal => verdict::to_law(asked, direct()),
+    }
+}
+
+// A sheet whose runs are checked: what its columns decide, then what its statistic does. The law is worked out where it is due.
 fn test_design(
     columns: &[f64],
-    n: usize,
-    k: usize,
-    d: f64,
-    alternative: Alternative,
+    size: SheetSize,
+    asked: Asked,
     choice: Choice,
     matrix: &mut [f64],
     parts: &mut [f64],
 ) -> Outcome
-    requires { ⌜ (n ≤ 256) × (1 ≤ k) × (k < n) × (k ≤ 8) × (k * n ≡ length (now columns)) ⌝ }
-    ensures { λ r. ⌜ r ≡ designOf roomOf (now (columns .entry)) n k d alternative choice (length (now (matrix .entry))) (length (now (parts .entry))) ⌝ }
-    ensures { λ _. ⌜ now (matrix .exit) ≡ clearedOf (designTouches roomOf (now (columns .entry)) n k choice (length (now (matrix .entry))) (length (now (parts .entry)))) (roomOf n) (now (matrix .entry)) ⌝ }
-    ensures { λ _. ⌜ now (parts .exit) ≡ clearedOf (designTouches roomOf (now (columns .entry)) n k choice (length (now (matrix .entry))) (length (now (parts .entry)))) 8004 (now (parts .entry)) ⌝ }
+    requires { ⌜ (Design size (now columns)) × (size .columns < size .rows) ⌝ }
+    ensures { λ r. ⌜ r ≡ designOf roomOf (now (columns .entry)) (size .rows) (size .columns) asked choice (length (now (matrix .entry))) (length (now (parts .entry))) ⌝ }
+    ensures { λ _. ⌜ now (matrix .exit) ≡ clearedOf (designTouches roomOf (now (columns .entry)) (size .rows) (size .columns) choice (length (now (matrix .entry))) (length (now (parts .entry)))) (roomOf (size .rows)) (now (matrix .entry)) ⌝ }
+    ensures { λ _. ⌜ now (parts .exit) ≡ clearedOf (designTouches roomOf (now (columns .entry)) (size .rows) (size .columns) choice (length (now (matrix .entry))) (length (now (parts .entry)))) partRoom (now (parts .entry)) ⌝ }
 {
-    let mut l = [[0.0f64; 8]; 8];
-    let pivots = checks::of_pivots(design::factor(columns, n, k, &mut l));
-    if pivots.number != 0 {
-        return refused(pivots);
+    let mut inverse = [[0.0f64; MAX_COLUMNS]; MAX_COLUMNS];
+    let why = layout::invert(columns, size, &mut inverse);
+    if why.number != 0 {
+        return refused(why);
     }
-    let inverse = design::inverse_of_factor(l, k);
-    let finite = checks::of_inverse(inverse, k);
-    if finite.number != 0 {
-        return refused(finite);
+    let said = said_of(columns, size, inverse, asked, choice, matrix, parts);
+    match said {
+        Said::Answered(outcome) => outcome,
+        Said::LawDue(left) => verdict::by_law(layout::law_of(columns, size, inverse), asked, left),
     }
-    let direct = Leaving {
-        fallback: false,
-        kept: 0,
-        work: Tally::new(),
-        settled: true,
-    };
-    if n < 3 {
-        return paths::accepted(
-            d,
-            1.0,
-            alternative,
-            n,
-            1,
-            direct,
-            NormalLaw {
-                mean: 0.0,
-                variance: 0.0,
-            },
-        );
-    }
-    if !paths::wants_exact(choice, n) {
-        return paths::normal(columns, n, k, inverse, d, alternative, direct);
-    }
-    let rooms = checks::of_rooms(n, matrix.len(), parts.len());
-    if rooms.number != 0 {
-        return refused(rooms);
-    }
-    let outcome = paths::exact(columns, n, k, inverse, d, alternative, matrix, parts);
-    clear(matrix, n * (n + 1));
-    clear(parts, 8004);
-    outcome
 }
 
 // The test. `columns` is k columns of as many numbers as there are residuals, one after another. The rooms are lent for the exact path: n (n + 1) numbers
-// and 8,004. A call that uses them leaves those numbers +0; every other call changes neither room.
+// and imhof's PART_ROOM. A call that uses them leaves those numbers +0; every other call changes neither room.
 pub fn durbin_watson_test(
     residuals: &[f64],
     columns: &[f64],
@@ -133,30 +159,27 @@ pub fn durbin_watson_test(
 ) -> Outcome
     ensures { λ r. ⌜ r ≡ testOf (now (residuals .entry)) (now (columns .entry)) k alternative choice (length (now (matrix .entry))) (length (now (parts .entry))) ⌝ }
     ensures { λ _. ⌜ now (matrix .exit) ≡ clearedOf (touched (now (residuals .entry)) (now (columns .entry)) k choice (length (now (matrix .entry))) (length (now (parts .entry)))) (roomOf (length (now (residuals .entry)))) (now (matrix .entry)) ⌝ }
-    ensures { λ _. ⌜ now (parts .exit) ≡ clearedOf (touched (now (residuals .entry)) (now (columns .entry)) k choice (length (now (matrix .entry))) (length (now (parts .entry)))) 8004 (now (parts .entry)) ⌝ }
+    ensures { λ _. ⌜ now (parts .exit) ≡ clearedOf (touched (now (residuals .entry)) (now (columns .entry)) k choice (length (now (matrix .entry))) (length (now (parts .entry)))) partRoom (now (parts .entry)) ⌝ }
 {
-    let n = residuals.len();
-    let sheet = checks::of_columns(design::check_columns(columns, n, k));
+    let found = design::check_columns(columns, residuals.len(), k);
+    let sheet = refusals::of_columns(found);
     if sheet.number != 0 {
         return refused(sheet);
     }
-    let statistic = autocorrelation::durbin_watson(residuals);
-    let found = checks::of_statistic(statistic);
-    if found.number != 0 {
-        return refused(found);
+    let size = refusals::size_in(found);
+    let answer = autocorrelation::durbin_watson(residuals);
+    let run = refusals::of_statistic(answer);
+    if run.number != 0 {
+        return refused(run);
     }
-    let rows = checks::of_rows(n, k);
+    let rows = refusals::of_rows(size);
     if rows.number != 0 {
         return refused(rows);
     }
-    test_design(
-        columns,
-        n,
-        k,
-        checks::statistic(statistic),
+    let asked = Asked {
+        statistic: refusals::statistic_in(answer),
         alternative,
-        choice,
-        matrix,
-        parts,
-    )
+        rows: size.rows,
+    };
+    test_design(columns, size, asked, choice, matrix, parts)
 }

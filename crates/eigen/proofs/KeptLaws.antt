@@ -8,13 +8,13 @@ use native.Mathlib.Omega.{arith}
 use mathlib.Core.List.{List, [], _∷_}
 use lib.ListN.{length, take, length-take}
 use lib.Ieee.{Float, lt}
-use Rattle.floats.specs.Words.{float, _‼_}
+use Rattle.floats.specs.Words.{_‼_}
 use Rattle.floats.specs.Signs.{before}
 use lib.Dec.{T}
 use lib.Ieee.Scale.{finite}
 use Rattle.floats.proofs.SignLaws.{before-one-way}
 use Rattle.floats.proofs.TotalOrder.{falls-on}
-use Rattle.eigen.specs.Kept.{insert, falling, large, keptOf}
+use Rattle.eigen.specs.Kept.{insert, falling, keptAbove, large, keptOf}
 use Rattle.eigen.specs.Falling.{NeverRises, AllLarge, AllFinite}
 use Rattle.eigen.proofs.OrderLaws.{length-large}
 
@@ -91,7 +91,7 @@ skipped w y (z ∷ r) a f h = (falls-on w y z a (f .0) (f .1 .0) (h .0) (h .1 .0
 large-behind : (w : Float) (l : List Float) → T (finite w) → AllFinite l → NeverRises (w ∷ l) → NeverRises (w ∷ large l)
 unfolding large NeverRises AllFinite
 large-behind w [] a f h = tt
-large-behind w (y ∷ r) a f h = go (lt (float 0x3ddb7cdfd9d7bdbb) y) (large-behind y r (f .0) (f .1) (h .1)) (large-behind w r a (f .1) (skipped w y r a f h))
+large-behind w (y ∷ r) a f h = go (lt keptAbove y) (large-behind y r (f .0) (f .1) (h .1)) (large-behind w r a (f .1) (skipped w y r a f h))
   where
     go : (b : Bool) → NeverRises (y ∷ large r) → NeverRises (w ∷ large r) → NeverRises (w ∷ cond b (y ∷ large r) (large r))
     go true p q = (h .0, p)
@@ -100,7 +100,7 @@ large-behind w (y ∷ r) a f h = go (lt (float 0x3ddb7cdfd9d7bdbb) y) (large-beh
 large-falls : (l : List Float) → AllFinite l → NeverRises l → NeverRises (large l)
 unfolding large NeverRises AllFinite
 large-falls [] f h = tt
-large-falls (x ∷ r) f h = go (lt (float 0x3ddb7cdfd9d7bdbb) x) (large-behind x r (f .0) (f .1) h) (large-falls r (f .1) (rest-falls x r h))
+large-falls (x ∷ r) f h = go (lt keptAbove x) (large-behind x r (f .0) (f .1) h) (large-falls r (f .1) (rest-falls x r h))
   where
     go : (b : Bool) → NeverRises (x ∷ large r) → NeverRises (large r) → NeverRises (cond b (x ∷ large r) (large r))
     go true p q = p
@@ -122,9 +122,9 @@ kept-few d n k = le-trans (length-large (take (n - k) (falling d n))) (simp leng
 all-large : (l : List Float) → AllLarge (large l)
 unfolding large AllLarge
 all-large [] = tt
-all-large (x ∷ r) = go (lt (float 0x3ddb7cdfd9d7bdbb) x) refl (all-large r)
+all-large (x ∷ r) = go (lt keptAbove x) refl (all-large r)
   where
-    go : (b : Bool) → lt (float 0x3ddb7cdfd9d7bdbb) x ≡ b → AllLarge (large r) → AllLarge (cond b (x ∷ large r) (large r))
+    go : (b : Bool) → lt keptAbove x ≡ b → AllLarge (large r) → AllLarge (cond b (x ∷ large r) (large r))
     go true e p = (e, p)
     go false e p = p
 

@@ -9,9 +9,9 @@ use mathlib.Core.List.{List, [], _∷_, _++_, append-nil}
 use lib.ListN.{length, take, drop, getD, set, length-append, length-take, length-drop}
 use lib.Seq.{slice, slice-cons, slice-empty, take-suc, take-suc-set, drop-set-lt, take-set-lt, append-snoc, set-split, drop-cons, set-at, take-at, drop-at, getD-at}
 use lib.Ieee.{Float, nan, lt}
-use Rattle.floats.specs.Words.{float, _‼_}
+use Rattle.floats.specs.Words.{_‼_}
 use Rattle.floats.specs.Signs.{before}
-use Rattle.eigen.specs.Kept.{insert, falling, large}
+use Rattle.eigen.specs.Kept.{insert, falling, keptAbove, large}
 
 -- ---- an insertion, one place on
 
@@ -60,7 +60,7 @@ length-falling d (suc n) = length-insert (d ‼ n) (falling d n) ∙ ap suc (len
 pub length-large : (l : List Float) → length (large l) ≤ length l
 unfolding large
 length-large [] = omega arith
-length-large (x ∷ r) = go (lt (float 0x3ddb7cdfd9d7bdbb) x) (length-large r)
+length-large (x ∷ r) = go (lt keptAbove x) (length-large r)
   where
     go : (b : Bool) → length (large r) ≤ length r → length (cond b (x ∷ large r) (large r)) ≤ suc (length r)
     go true h = omega arith
@@ -88,7 +88,7 @@ order-next d d₀ i h e =
 large-append : (l r : List Float) → large (l ++ r) ≡ large l ++ large r
 unfolding large
 large-append [] r = refl
-large-append (x ∷ l) r = go (lt (float 0x3ddb7cdfd9d7bdbb) x) (large-append l r)
+large-append (x ∷ l) r = go (lt keptAbove x) (large-append l r)
   where
     go : (b : Bool) → large (l ++ r) ≡ large l ++ large r → cond b (x ∷ large (l ++ r)) (large (l ++ r)) ≡ cond b (x ∷ large l) (large l) ++ large r
     go true h = ap (λ (z : List Float). x ∷ z) h
@@ -98,11 +98,11 @@ module _ (d : List Float) (t : ℕ) (h : t < length d) where
   one-more : large (take (t + 1) d) ≡ large (take t d) ++ large (d ‼ t ∷ [])
   one-more = rw (add-one t, take-suc d t nan h) (large-append (take t d) (d ‼ t ∷ []))
 
-  pub large-kept : lt (float 0x3ddb7cdfd9d7bdbb) (d ‼ t) ≡ true → large (take (t + 1) d) ≡ large (take t d) ++ (d ‼ t ∷ [])
+  pub large-kept : lt keptAbove (d ‼ t) ≡ true → large (take (t + 1) d) ≡ large (take t d) ++ (d ‼ t ∷ [])
   unfolding large
   large-kept b = one-more ∙ rw b
 
-  pub large-left : lt (float 0x3ddb7cdfd9d7bdbb) (d ‼ t) ≡ false → large (take (t + 1) d) ≡ large (take t d)
+  pub large-left : lt keptAbove (d ‼ t) ≡ false → large (take (t + 1) d) ≡ large (take t d)
   unfolding large
   large-left b = one-more ∙ rw b (append-nil (large (take t d)))
 

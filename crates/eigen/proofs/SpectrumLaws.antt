@@ -1,10 +1,11 @@
 -- From the values that the code holds, step by step, to the spectrum's definitions; and what is known of the kept numbers. Assumes nothing.
 use mathlib.Core.Path.{_≡_, refl, sym, ap, _∙_}
-use Prim.Native.Nat.{ℕ, _+_, _-_, _*_, _≤_}
+use Prim.Native.Nat.{ℕ, _+_, _-_, _≤_}
 use native.Mathlib.Omega.{arith}
 use mathlib.Core.List.{List, [], _++_, append-nil}
 use lib.Ieee.{Float}
 use Rattle.floats.specs.Tables.{triangle}
+use Rattle.floats.specs.Limits.{matrixRoom}
 use Rattle.floats.specs.Matrix.{entry, whole, halfOf}
 use lib.ListN.{length, take, drop, drop-of-length-le}
 use lib.Seq.{take-at, drop-at, drop-drop, take-append-le}
@@ -53,7 +54,7 @@ module _ (n : ℕ) (room t d₀ e₀ d e : List Float) (w : Tally) (l : length t
       → e ≡ couplingsOf n (whole n (take m (t ++ drop m room))) ++ drop n e₀ → (t ≡ halfOf n reduced) × (qlOf n n d e w ≡ workedOf n lent) × (stuckOf n n d e w ≡ bandsStuck n reduced)
   worked-is m o g f h = let x : m ≡ triangle n = omega arith in let y = rw x at g in let r = worked-from y (rw x at f) (rw x at h) in (y, r .0, r .1)
 
--- 13, stage 3
+-- one of the numbers is not finite
 pub number-bad : (n k : ℕ) (b : List Float) (t : ℕ) → firstBad (numbersOf n b) ≡ At t → (deliveredOf n k b ≡ NumberNotFinite) × (deliveredNumbers n k b ≡ [])
 unfolding deliveredOf deliveredNumbers
 number-bad n k b t h = rw h (refl, refl)
@@ -69,7 +70,7 @@ numbers-good n k b d h e =
     within : (n k : ℕ) {m : ℕ} → m ≡ n → n - k ≤ m
     within n k h = omega arith
 
--- 13, stage 2; and where M A M is finite, what the QL step delivers. The lower triangle decides which
+-- an entry of M A M is not finite; and where all are, what the QL step delivers. The lower triangle decides which
 module _ (x : List Float) (inverse : List (List Float)) (n k : ℕ) where
   pub matrix-bad : (t : ℕ) → firstBad (halfOf n (mamOf x inverse n k)) ≡ At t
       → (spectrumOf x inverse n k ≡ MatrixNotFinite) × (keptNumbers x inverse n k ≡ []) × (frontOf x inverse n k ≡ halfOf n (mamOf x inverse n k))
@@ -138,9 +139,9 @@ unfolding frontOf
 length-front x inverse n k = length-half (entry n (frontBy (firstBad (mamOf x inverse n k)) n (mamOf x inverse n k))) n
 
 pub beyond : (x : List Float) (inverse : List (List Float)) (n k : ℕ) (room end : List Float)
-    → end ≡ frontOf x inverse n k ++ (halfOf n (residualMaker x inverse n k) ++ drop (n * (n + 1)) room) → drop (n * (n + 1)) end ≡ drop (n * (n + 1)) room
+    → end ≡ frontOf x inverse n k ++ (halfOf n (residualMaker x inverse n k) ++ drop (matrixRoom n) room) → drop (matrixRoom n) end ≡ drop (matrixRoom n) room
 beyond x inverse n k room end h =
     ap (λ (m : ℕ). drop m end) (sym (triangle-twice n)) ∙ sym (drop-drop (triangle n) (triangle n) end)
     ∙ ap (λ e. drop (triangle n) (drop (triangle n) e)) h
     ∙ ap (drop (triangle n)) (drop-at (frontOf x inverse n k) _ (triangle n) (length-front x inverse n k))
-    ∙ drop-at (halfOf n (residualMaker x inverse n k)) (drop (n * (n + 1)) room) (triangle n) (length-half (entry n (residualMaker x inverse n k)) n)
+    ∙ drop-at (halfOf n (residualMaker x inverse n k)) (drop (matrixRoom n) room) (triangle n) (length-half (entry n (residualMaker x inverse n k)) n)

@@ -5,8 +5,8 @@ use mathlib.Core.List.{List, [], _∷_}
 use lib.Dec.{T}
 use lib.Ieee.{Float, lt}
 use lib.Ieee.Scale.{finite}
-use Rattle.floats.specs.Words.{float}
 use Rattle.floats.specs.Signs.{before}
+use Rattle.eigen.specs.Kept.{keptAbove}
 
 -- no number comes before the one after it
 unfoldable pub NeverRises : List Float → Type 0
@@ -17,7 +17,7 @@ NeverRises (x ∷ (y ∷ r)) = (before x y ≡ false) × NeverRises (y ∷ r)
 -- each number is above 1e-10
 unfoldable pub AllLarge : List Float → Type 0
 AllLarge [] = Unit {0}
-AllLarge (x ∷ r) = (lt (float 0x3ddb7cdfd9d7bdbb) x ≡ true) × AllLarge r
+AllLarge (x ∷ r) = (lt keptAbove x ≡ true) × AllLarge r
 
 -- each number is finite
 unfoldable pub AllFinite : List Float → Type 0

@@ -18,10 +18,14 @@ unfolding insert
 falling d zero = []
 falling d (suc n) = insert (d ‼ n) (falling d n)
 
--- those above 1e-10
+-- 1e-10
+abbrev pub keptAbove : Float
+keptAbove = float 0x3ddb7cdfd9d7bdbb
+
+-- those above it
 unfoldable pub large : List Float → List Float
 large [] = []
-large (x ∷ r) = cond (lt (float 0x3ddb7cdfd9d7bdbb) x) (x ∷ large r) (large r)
+large (x ∷ r) = cond (lt keptAbove x) (x ∷ large r) (large r)
 
 -- what is kept of the first n numbers of d, in a design of k columns
 unfoldable pub keptOf : List Float → ℕ → ℕ → List Float

@@ -36,7 +36,7 @@ workedOf n b = bandsWorked n (tridiagonalOf n b)
 abbrev pub numbersOf : ℕ → List Float → List Float
 numbersOf n b = workedOf n b .diagonal
 
--- 13, stage 3, where one of them is not finite; else how many are kept, the sweeps, and whether a coupling was left
+-- one of them is not finite; else how many are kept, the sweeps, and whether a coupling was left
 abbrev pub keptBy : Found → ℕ → ℕ → List Float → Tally → Bool → Spectrum
 keptBy (At t) n k numbers work stuck = NumberNotFinite
 keptBy Nothing n k numbers work stuck = Kept (record { count = length (keptOf numbers n k); work = work; stuck = stuck })
@@ -51,7 +51,7 @@ deliveredOf n k b = keptBy (firstBad (numbersOf n b)) n k (numbersOf n b) (worke
 unfoldable pub deliveredNumbers : ℕ → ℕ → List Float → List Float
 deliveredNumbers n k b = keptFrom (firstBad (numbersOf n b)) n k (numbersOf n b)
 
--- 13, stage 2, where an entry of M A M is not finite; else what the QL step delivers
+-- an entry of M A M is not finite; else what the QL step delivers
 abbrev pub spectrumBy : Found → ℕ → ℕ → List Float → Spectrum
 spectrumBy (At t) n k b = MatrixNotFinite
 spectrumBy Nothing n k b = deliveredOf n k b

@@ -1,16 +1,21 @@
 // The eigenvalues of M A that the exact test uses: in falling order, cut to n - k, above 1e-10.
 ghost use mathlib.Core.Path.{_≡_};
 ghost use mathlib.Core.List.{_++_};
-ghost use Prim.Native.Nat.{_+_, _*_, _≤_, _<_};
+ghost use Prim.Native.Nat.{_≤_};
 ghost use lib.ListN.{length, take, drop};
 ghost use Rattle.floats.specs.Tables.{triangle};
 ghost use Rattle.floats.specs.Matrix.{whole, halfOf};
+ghost use Rattle.floats.specs.Limits.{maxRows, matrixRoom};
+ghost use Rattle.design.specs.Sheet.{Design};
 ghost use Rattle.projection.specs.Projection.{residualMaker};
 ghost use Rattle.tridiagonal.specs.Reflection.{tridiagonalOf};
 ghost use Rattle.eigen.specs.Spectrum.{deliveredOf, deliveredNumbers, spectrumOf, keptNumbers, frontOf};
 
 pub mod order;
 
+use design::Matrix;
+use design::SheetSize;
+use floats::limits::MAX_ROWS;
 use floats::search::Found;
 use floats::tally::Tally;
 
@@ -22,27 +27,28 @@ pub struct Numbers {
 }
 
 pub enum Spectrum {
-    // Refusal 13, stage 2.
+    // An entry of M A M is not finite.
     MatrixNotFinite,
-    // Refusal 13, stage 3.
+    // One of the n numbers that the QL step delivers is not finite.
     NumberNotFinite,
     Kept(Numbers),
 }
 
-// The eigenvalues of the symmetric matrix whose lower triangle is in the first n (n + 1) / 2 numbers of the room. `d` and `e` are room for its bands, n numbers each.
+// The eigenvalues of the symmetric matrix of n rows whose lower triangle is in the front of the room. `d` and `e` are room for its bands, n numbers each.
 fn delivered(
     room: &mut [f64],
-    n: usize,
-    k: usize,
+    size: SheetSize,
     d: &mut [f64],
     e: &mut [f64],
     kept: &mut [f64],
 ) -> Spectrum
-    requires { ⌜ (triangle n ≤ length (now room)) × (n ≤ 256) × (k ≤ n) × (length (now d) ≡ n) × (length (now e) ≡ n) × (n ≤ length (now kept)) ⌝ }
-    ensures { λ r. ⌜ r ≡ deliveredOf n k (whole n (take (triangle n) (now (room .entry)))) ⌝ }
-    ensures { λ _. ⌜ now (room .exit) ≡ halfOf n (tridiagonalOf n (whole n (take (triangle n) (now (room .entry))))) ++ drop (triangle n) (now (room .entry)) ⌝ }
-    ensures { λ _. ⌜ now (kept .exit) ≡ deliveredNumbers n k (whole n (take (triangle n) (now (room .entry)))) ++ drop (length (deliveredNumbers n k (whole n (take (triangle n) (now (room .entry)))))) (now (kept .entry)) ⌝ }
+    requires { ⌜ (triangle (size .rows) ≤ length (now room)) × (size .rows ≤ maxRows) × (size .columns ≤ size .rows) × (length (now d) ≡ size .rows) × (length (now e) ≡ size .rows) × (size .rows ≤ length (now kept)) ⌝ }
+    ensures { λ r. ⌜ r ≡ deliveredOf (size .rows) (size .columns) (whole (size .rows) (take (triangle (size .rows)) (now (room .entry)))) ⌝ }
+    ensures { λ _. ⌜ now (room .exit) ≡ halfOf (size .rows) (tridiagonalOf (size .rows) (whole (size .rows) (take (triangle (size .rows)) (now (room .entry))))) ++ drop (triangle (size .rows)) (now (room .entry)) ⌝ }
+    ensures { λ _. ⌜ now (kept .exit) ≡ deliveredNumbers (size .rows) (size .columns) (whole (size .rows) (take (triangle (size .rows)) (now (room .entry)))) ++ drop (length (deliveredNumbers (size .rows) (size .columns) (whole (size .rows) (take (triangle (size .rows)) (now (room .entry)))))) (now (kept .entry)) ⌝ }
 {
+    let n = size.rows;
+    let k = size.columns;
     let half = rows::half::place(n, 0);
     tridiagonal::tridiagonalize(&mut room[..half], n);
     tridiagonal::bands(&room[..half], n, d, e);
@@ -63,24 +69,24 @@ fn delivered(
 // The kept eigenvalues into the front of `kept`, how many, and the sweeps. The first n (n + 1) numbers of the room are worked in.
 pub fn ma_eigenvalues(
     columns: &[f64],
-    n: usize,
-    k: usize,
-    inverse: [[f64; 8]; 8],
+    size: SheetSize,
+    inverse: Matrix,
     room: &mut [f64],
     kept: &mut [f64],
 ) -> Spectrum
-    requires { ⌜ (n ≤ 256) × (k ≤ 8) × (k ≤ n) × (k * n ≡ length (now columns)) × (n * (n + 1) ≤ length (now room)) × (n ≤ length (now kept)) ⌝ }
-    ensures { λ r. ⌜ r ≡ spectrumOf (now (columns .entry)) inverse n k ⌝ }
-    ensures { λ _. ⌜ now (kept .exit) ≡ keptNumbers (now (columns .entry)) inverse n k ++ drop (length (keptNumbers (now (columns .entry)) inverse n k)) (now (kept .entry)) ⌝ }
-    ensures { λ _. ⌜ now (room .exit) ≡ frontOf (now (columns .entry)) inverse n k ++ (halfOf n (residualMaker (now (columns .entry)) inverse n k) ++ drop (n * (n + 1)) (now (room .entry))) ⌝ }
+    requires { ⌜ (Design size (now columns)) × (size .columns ≤ size .rows) × (matrixRoom (size .rows) ≤ length (now room)) × (size .rows ≤ length (now kept)) ⌝ }
+    ensures { λ r. ⌜ r ≡ spectrumOf (now (columns .entry)) inverse (size .rows) (size .columns) ⌝ }
+    ensures { λ _. ⌜ now (kept .exit) ≡ keptNumbers (now (columns .entry)) inverse (size .rows) (size .columns) ++ drop (length (keptNumbers (now (columns .entry)) inverse (size .rows) (size .columns))) (now (kept .entry)) ⌝ }
+    ensures { λ _. ⌜ now (room .exit) ≡ frontOf (now (columns .entry)) inverse (size .rows) (size .columns) ++ (halfOf (size .rows) (residualMaker (now (columns .entry)) inverse (size .rows) (size .columns)) ++ drop (matrixRoom (size .rows)) (now (room .entry))) ⌝ }
 {
-    let found = projection::mam(room, columns, inverse, n, k);
+    let n = size.rows;
+    let found = projection::mam(room, columns, inverse, size);
     match found {
         Found::At(_) => Spectrum::MatrixNotFinite,
         Found::Nothing => {
-            let mut d = [0.0f64; 256];
-            let mut e = [0.0f64; 256];
-            delivered(room, n, k, &mut d[..n], &mut e[..n], kept)
+            let mut d = [0.0f64; MAX_ROWS];
+            let mut e = [0.0f64; MAX_ROWS];
+            delivered(room, size, &mut d[..n], &mut e[..n], kept)
         }
     }
 }

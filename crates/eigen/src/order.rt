@@ -46,7 +46,10 @@ pub fn order(d: &mut [f64], n: usize)
     }
 }
 
-// The first m numbers of d that exceed 1e-10, in their order, into the front of `kept`; how many.
+// What an eigenvalue exceeds to be kept.
+const KEPT_ABOVE: f64 = 1e-10;
+
+// The first m numbers of d that exceed that, in their order, into the front of `kept`; how many.
 pub fn keep(d: &[f64], m: usize, kept: &mut [f64]) -> usize
     requires { ⌜ (m ≤ length (now d)) × (m ≤ length (now kept)) ⌝ }
     ensures count { λ r. ⌜ r ≡ length (large (take m (now (d .entry)))) ⌝ }
@@ -55,7 +58,7 @@ pub fn keep(d: &[f64], m: usize, kept: &mut [f64]) -> usize
     let mut count = 0usize;
     for t in 0..m {
         let x = d[t];
-        if !(x > 1e-10) {
+        if !(x > KEPT_ABOVE) {
             continue;
         }
         kept[count] = x;

@@ -7,3 +7,4 @@ pub mod Count
 pub mod Turns
 pub mod Tables
 pub mod Matrix
+pub mod Limits

@@ -1,4 +1,4 @@
--- How the integral ended. After k turns a stage is open with k bisections, or settled with a small error sum, or refused; so an integral of fewer than 2,000 bisections has
+-- How the integral ended. After k turns a stage is open with k bisections, or settled with a small error sum, or refused; so an integral of fewer than the most bisections has
 -- a small final sum. And what an estimate says of its sum: that of the last stage where the weights have both signs, else yes. Assumes nothing.
 use mathlib.Core.Path.{_≡_, refl, sym, ap, _∙_, subst}
 use mathlib.Core.Bool.{Bool, true, false, _&&_, cond}
@@ -22,7 +22,7 @@ use Rattle.imhof.specs.Weights.{weightsOf, Signs, none, above, below, mi
 use Rattle.imhof.specs.Range.{lowEnd, highEnd}
 use Rattle.imhof.specs.Integrand.{integrandOf}
 use Rattle.imhof.specs.Rule.{gk15Of}
-use Rattle.imhof.specs.Parts.{errorsOf, finitePart, lookedAt, Stage, stage, tolerance, nextStage, stageAfter}
+use Rattle.imhof.specs.Parts.{mostBisections, errorsOf, finitePart, lookedAt, Stage, stage, tolerance, nextStage, stageAfter}
 use Rattle.imhof.specs.Imhof.{smallSum, quadratureOf, lastStage, lastStageBy, exactBy, outcomeBy, imhofOf}
 use Rattle.imhof.proofs.StageLaws.{finiteHalves, split, first-open, first-broken, stage-next}
 use Rattle.imhof.proofs.Probability.{no-value, refused-value, same-value}
@@ -80,12 +80,12 @@ few k s = go (s .parts) (s .tally) (s .standing)
 pub few-turns : (f : Float → Float) (a b : Float) (k : ℕ) (i : Integral) → quadratureOf (stageAfter k f a b) ≡ Sum i → i .tally .bisections < k → smallSum i ≡ true
 few-turns f a b k = few k (stageAfter k f a b) (after-turns f a b k)
 
--- FEW BISECTIONS: an integral that is a sum, of fewer than 2,000 bisections, has a final error sum of at most 5e-12
-pub few-bisections : (ws : List Float) (i : Integral) → quadratureOf (lastStage ws) ≡ Sum i → i .tally .bisections < 2000 → smallSum i ≡ true
+-- FEW BISECTIONS: an integral that is a sum, of fewer than the most bisections, has a final error sum of at most the tolerance
+pub few-bisections : (ws : List Float) (i : Integral) → quadratureOf (lastStage ws) ≡ Sum i → i .tally .bisections < mostBisections → smallSum i ≡ true
 few-bisections ws i q l = go (finite (lowEnd ws) && finite (highEnd ws)) q
   where
     go : (fine : Bool) → quadratureOf (lastStageBy fine ws) ≡ Sum i → smallSum i ≡ true
-    go true q = few-turns (integrandOf ws) (lowEnd ws) (highEnd ws) 2000 i q l
+    go true q = few-turns (integrandOf ws) (lowEnd ws) (highEnd ws) mostBisections i q l
     go false q = absurd (broken-sum q)
 
 -- ---- what an estimate says of its error sum
@@ -115,13 +115,13 @@ small-of-certain es d e m q = go (signsOf (weightsOf es d)) m (weightsOf es d) q
     go below h ws q = ap (λ d. d .small) (sym (same-value q))
     go mixed h ws q = absurd (h refl)
 
--- so an estimate of fewer than 2,000 bisections has a small error sum, whether an integral was needed or not
-pub few-small : (eigenvalues : List Float) (d : Float) (e : Estimate) → imhofOf eigenvalues d .answer ≡ Value e → e .tally .bisections < 2000 → e .small ≡ true
+-- so an estimate of fewer than the most bisections has a small error sum, whether an integral was needed or not
+pub few-small : (eigenvalues : List Float) (d : Float) (e : Estimate) → imhofOf eigenvalues d .answer ≡ Value e → e .tally .bisections < mostBisections → e .small ≡ true
 unfolding imhofOf
 few-small es d e q l = go (signsOf (weightsOf es d)) (weightsOf es d) q
   where
-    by : (found : Quadrature) → ((i : Integral) → found ≡ Sum i → i .tally .bisections < 2000 → smallSum i ≡ true) → exactBy found ≡ Value e → e .small ≡ true
-    by (Sum i) k q = let z = same-value q in ap (λ d. d .small) (sym z) ∙ k i refl (subst (λ n. n < 2000) (ap (λ d. d .tally .bisections) (sym z)) l)
+    by : (found : Quadrature) → ((i : Integral) → found ≡ Sum i → i .tally .bisections < mostBisections → smallSum i ≡ true) → exactBy found ≡ Value e → e .small ≡ true
+    by (Sum i) k q = let z = same-value q in ap (λ d. d .small) (sym z) ∙ k i refl (subst (λ n. n < mostBisections) (ap (λ d. d .tally .bisections) (sym z)) l)
     by Broken k q = absurd (refused-value q)
 
     go : (s : Signs) (ws : List Float) → outcomeBy s ws .answer ≡ Value e → e .small ≡ true

@@ -15,10 +15,10 @@ use Rattle.imhof.specs.declared.Part.{Part}
 use Rattle.imhof.specs.declared.Standing.{Standing}
 use Rattle.imhof.specs.declared.Standing.the-variants.{Open, Settled, Refused}
 use Rattle.imhof.specs.Rule.{gk15Of}
-use Rattle.imhof.specs.Parts.{worstOf, bisectedAt, finitePart, Stage, stage, oneRule, nextStage, stageAfter}
+use Rattle.imhof.specs.Parts.{mostBisections, mostParts, worstOf, bisectedAt, finitePart, Stage, stage, oneRule, nextStage, stageAfter}
 use Rattle.imhof.specs.declared.Quadrature.the-variants.{Sum}
 use Rattle.imhof.specs.Imhof.{integralOf, quadratureOf}
-use Rattle.imhof.specs.Room.{stored, laidOut, partsIn}
+use Rattle.imhof.specs.Room.{PartRoom, stored, laidOut, partsIn}
 use Rattle.imhof.proofs.RoomLaws.{laid-more, laid-over, laid-in, in-laid, length-in}
 use Rattle.imhof.proofs.StageLaws.{first-broken, was-settled, was-bisected, was-refused, stays-settled, stays-refused, turns-stay, stage-stays, split, length-split}
 use Rattle.imhof.proofs.Tiling.{counted}
@@ -35,14 +35,14 @@ module _ (f : Float → Float) (s₀ : Stage) where
 
   -- so it stands at the end
   abbrev pub Ended : List Float → List Float → Tally → ℕ → Standing → Type 0
-  Ended r room t n end = (turns 2000 (λ t. nextStage f) s₀ ≡ stage (partsIn n room) t end) × (room ≡ laidOut (partsIn n room) r)
+  Ended r room t n end = (turns mostBisections (λ t. nextStage f) s₀ ≡ stage (partsIn n room) t end) × (room ≡ laidOut (partsIn n room) r)
 
-  pub ended-laid : (r room : List Float) (t : Tally) (n : ℕ) (end : Standing) → Ended r room t n end → room ≡ laidOut (turns 2000 (λ t. nextStage f) s₀ .parts) r
+  pub ended-laid : (r room : List Float) (t : Tally) (n : ℕ) (end : Standing) → Ended r room t n end → room ≡ laidOut (turns mostBisections (λ t. nextStage f) s₀ .parts) r
   ended-laid r room t n end h = h .1 ∙ ap (λ s. laidOut (s .parts) r) (sym (h .0))
 
   -- the sums of an end that is not refused are the answer
   abbrev pub Answered : List Float → List Float → Tally → ℕ → Type 0
-  Answered r room t n = (Sum (integralOf (stage (partsIn n room) t Open)) ≡ quadratureOf (turns 2000 (λ t. nextStage f) s₀)) × (room ≡ laidOut (turns 2000 (λ t. nextStage f) s₀ .parts) r)
+  Answered r room t n = (Sum (integralOf (stage (partsIn n room) t Open)) ≡ quadratureOf (turns mostBisections (λ t. nextStage f) s₀)) × (room ≡ laidOut (turns mostBisections (λ t. nextStage f) s₀ .parts) r)
 
   pub answer-open : (r room : List Float) (t : Tally) (n : ℕ) → Ended r room t n Open → Answered r room t n
   answer-open r room t n h = (sym (ap quadratureOf (h .0)), ended-laid r room t n Open h)
@@ -50,11 +50,11 @@ module _ (f : Float → Float) (s₀ : Stage) where
   pub answer-settled : (r room : List Float) (t : Tally) (n : ℕ) → Ended r room t n Settled → Answered r room t n
   answer-settled r room t n h = (sym (ap quadratureOf (h .0)), ended-laid r room t n Settled h)
 
-  -- the stage is open after all 2,000 turns
-  pub held-all : (r room : List Float) (t : Tally) (n : ℕ) → n ≡ 2001 → Held r room t n → Ended r room t n Open
+  -- the stage is open after all the turns
+  pub held-all : (r room : List Float) (t : Tally) (n : ℕ) → n ≡ mostParts → Held r room t n → Ended r room t n Open
   held-all r room t n all held = (ap (λ k. turns (k - 1) (λ t. nextStage f) s₀) (sym all) ∙ held .0, held .1)
 
-  module _ (r room : List Float) (t : Tally) (n : ℕ) (some : 0 < n) (small : n < 2001) (fit : 8004 ≤ length room) (held : Held r room t n) where
+  module _ (r room : List Float) (t : Tally) (n : ℕ) (some : 0 < n) (small : n < mostParts) (fit : PartRoom room) (held : Held r room t n) where
     abbrev ps : List Part
     ps = partsIn n room
 
@@ -81,7 +81,7 @@ module _ (f : Float → Float) (s₀ : Stage) where
         → after ≡ laidOut (nextStage f (stage ps t Open) .parts) room → Ended r after t n end
     last after end s stays at =
         let same : after ≡ room = at ∙ ap (λ z. laidOut (z .parts) room) s ∙ laid-in n room in (
-          turns-stay f s₀ (stage ps t end) (n + 1 - 1) 2000 (omega arith) (next ∙ s) stays ∙ ap (λ l. stage (partsIn n l) t end) (sym same),
+          turns-stay f s₀ (stage ps t end) (n + 1 - 1) mostBisections (omega arith) (next ∙ s) stays ∙ ap (λ l. stage (partsIn n l) t end) (sym same),
           rw same (held .1),
         )
 
@@ -97,24 +97,24 @@ held-first f r t = (turns-none (λ t. nextStage f) (stage (partsIn 1 r) t Open),
 
 module _ (f : Float → Float) (a b : Float) where
   -- where the first part is not finite there is no stage but the refused one
-  pub first-refused : finitePart (gk15Of f a b) ≡ false → stageAfter 2000 f a b ≡ stage [] noWork Refused
-  first-refused h = stage-stays f a b (stage [] noWork Refused) 0 2000 (omega arith) (first-broken f a b h) (stays-refused f [] noWork)
+  pub first-refused : finitePart (gk15Of f a b) ≡ false → stageAfter mostBisections f a b ≡ stage [] noWork Refused
+  first-refused h = stage-stays f a b (stage [] noWork Refused) 0 mostBisections (omega arith) (first-broken f a b h) (stays-refused f [] noWork)
 
-  module _ (r : List Float) (fit : 8004 ≤ length r) (fine : finitePart (gk15Of f a b) ≡ true) where
+  module _ (r : List Float) (fit : PartRoom r) (fine : finitePart (gk15Of f a b) ≡ true) where
     -- the stages from the first part in the room on are the range's
-    pub from-first : turns 2000 (λ t. nextStage f) (stage (partsIn 1 (stored 0 (gk15Of f a b) r)) (oneRule noWork) Open) ≡ stageAfter 2000 f a b
+    pub from-first : turns mostBisections (λ t. nextStage f) (stage (partsIn 1 (stored 0 (gk15Of f a b) r)) (oneRule noWork) Open) ≡ stageAfter mostBisections f a b
     unfolding stageAfter
     from-first =
         let p : Part = gk15Of f a b in
         let one : partsIn 1 (stored 0 p r) ≡ p ∷ [] = ap (partsIn 1) (sym (laid-one p r)) ∙ in-laid (p ∷ []) r (omega arith) fit in
-        ap (λ l. turns 2000 (λ t. nextStage f) (stage l (oneRule noWork) Open)) one ∙ rw fine refl
+        ap (λ l. turns mostBisections (λ t. nextStage f) (stage l (oneRule noWork) Open)) one ∙ rw fine refl
 
     -- and what they lay out goes over that part
-    pub over-first : laidOut (stageAfter 2000 f a b .parts) (stored 0 (gk15Of f a b) r) ≡ laidOut (stageAfter 2000 f a b .parts) r
+    pub over-first : laidOut (stageAfter mostBisections f a b .parts) (stored 0 (gk15Of f a b) r) ≡ laidOut (stageAfter mostBisections f a b .parts) r
     over-first =
         let p : Part = gk15Of f a b in
-        let many = counted f a b fine 2000 in
-        ap (laidOut (stageAfter 2000 f a b .parts)) (sym (laid-one p r)) ∙ laid-over (p ∷ []) (stageAfter 2000 f a b .parts) r (omega (arith, many .0, many .2)) (omega (arith, many .0))
+        let many = counted f a b fine mostBisections in
+        ap (laidOut (stageAfter mostBisections f a b .parts)) (sym (laid-one p r)) ∙ laid-over (p ∷ []) (stageAfter mostBisections f a b .parts) r (omega (arith, many .0, many .2)) (omega (arith, many .0))
 
 pub laid-none : (r : List Float) → laidOut [] r ≡ r
 unfolding laidOut turns

@@ -1,5 +1,5 @@
 -- What an answer of the whole can be. Where a weight is left and nothing was refused the clamped probability lies in [0, 1], so it is no NaN; the evaluations are 15 and 30 more for each
--- bisection, and none where no integral was needed; there is one part more than bisections in the room, at most 2,001. There is no exact value exactly where no weight is left.
+-- bisection, and none where no integral was needed; there is one part more than bisections in the room, at most mostParts. There is no exact value exactly where no weight is left.
 -- One idea: the values that are added up are finite, since a part that is not is refused. Assumes nothing.
 use mathlib.Core.Path.{_≡_, refl, sym, ap, _∙_, subst}
 use mathlib.Core.Logic.{_⊎_, inl, inr, ⊎-elim}
@@ -26,7 +26,7 @@ use Rattle.imhof.specs.Weights.{weightsOf, allAbove, allBelow, Signs, no
 use Rattle.imhof.specs.Range.{lowEnd, highEnd}
 use Rattle.imhof.specs.Integrand.{integrandOf}
 use Rattle.imhof.specs.Rule.{gk15Of}
-use Rattle.imhof.specs.Parts.{partAt, valuesOf, worstOf, leftHalf, rightHalf, finitePart, Stage, stage, stageAfter}
+use Rattle.imhof.specs.Parts.{mostBisections, partAt, valuesOf, worstOf, leftHalf, rightHalf, finitePart, Stage, stage, stageAfter}
 use Rattle.imhof.specs.Imhof.{quadratureOf, lastStage, lastStageBy, estimateOf, exactBy, outcomeBy, imhofOf}
 use Rattle.imhof.proofs.StageLaws.{split, finiteHalves, length-split}
 use Rattle.imhof.proofs.HeldLaws.{first-refused}
@@ -47,7 +47,7 @@ both-right : (a b : Bool) → a && b ≡ true → b ≡ true
 both-right true b h = h
 both-right false b h = absurd (true≢false (sym h))
 
-finite-stage : (f : Float → Float) (a b : Float) → All FinitePart (stageAfter 2000 f a b .parts)
+finite-stage : (f : Float → Float) (a b : Float) → All FinitePart (stageAfter mostBisections f a b .parts)
 finite-stage f a b = go (finitePart (gk15Of f a b)) refl
   where
     keeps : (ps : List Part) (t : Tally) → finiteHalves f ps t ≡ true → (0 < length ps) × All FinitePart ps → (0 < length (split f ps t .parts)) × All FinitePart (split f ps t .parts)
@@ -56,8 +56,8 @@ finite-stage f a b = go (finitePart (gk15Of f a b)) refl
       all-bisected FinitePart f ps (h .0) (both-left (finitePart (leftHalf f (partAt ps (worstOf ps)))) (finitePart (rightHalf f (partAt ps (worstOf ps)))) e) (both-right (finitePart (leftHalf f (partAt ps (worstOf ps)))) (finitePart (rightHalf f (partAt ps (worstOf ps)))) e) (h .1),
     )
 
-    go : (fine : Bool) → finitePart (gk15Of f a b) ≡ fine → All FinitePart (stageAfter 2000 f a b .parts)
-    go true e = every-stage f (λ ps t. (0 < length ps) × All FinitePart ps) keeps a b e (omega arith, (e, tt)) 2000 .1
+    go : (fine : Bool) → finitePart (gk15Of f a b) ≡ fine → All FinitePart (stageAfter mostBisections f a b .parts)
+    go true e = every-stage f (λ ps t. (0 < length ps) × All FinitePart ps) keeps a b e (omega arith, (e, tt)) mostBisections .1
     go false e = subst (λ s. All FinitePart (s .parts)) (sym (first-refused f a b e)) tt
 
 finite-last : (ws : List Float) → All FinitePart (lastStage ws .parts)
@@ -137,9 +137,9 @@ no-weight es d = (go (weightsOf es d), λ e. rw e)
 
 -- the counts of an answer that took an integral
 abbrev pub Worked : Tally → List Part → Type 0
-Worked t ps = (length ps ≡ t .bisections + 1) × (t .evaluations ≡ 15 + 30 * t .bisections) × (t .bisections ≤ 2000)
+Worked t ps = (length ps ≡ t .bisections + 1) × (t .evaluations ≡ 15 + 30 * t .bisections) × (t .bisections ≤ mostBisections)
 
-stage-worked : (f : Float → Float) (a b : Float) (e : Estimate) → exactBy (quadratureOf (stageAfter 2000 f a b)) ≡ Value e → Worked (e .tally) (stageAfter 2000 f a b .parts)
+stage-worked : (f : Float → Float) (a b : Float) (e : Estimate) → exactBy (quadratureOf (stageAfter mostBisections f a b)) ≡ Value e → Worked (e .tally) (stageAfter mostBisections f a b .parts)
 stage-worked f a b e q = go (finitePart (gk15Of f a b)) refl
   where
     tallied : (s : Stage) → exactBy (quadratureOf s) ≡ Value e → s .tally ≡ e .tally
@@ -150,11 +150,11 @@ stage-worked f a b e q = go (finitePart (gk15Of f a b)) refl
         by ps t Settled q = ap (λ d. d .tally) (same-value q)
         by ps t Refused q = absurd (refused-value q)
 
-    go : (fine : Bool) → finitePart (gk15Of f a b) ≡ fine → Worked (e .tally) (stageAfter 2000 f a b .parts)
-    go true h = subst (λ t. Worked t (stageAfter 2000 f a b .parts)) (tallied (stageAfter 2000 f a b) q) (counted f a b h 2000)
+    go : (fine : Bool) → finitePart (gk15Of f a b) ≡ fine → Worked (e .tally) (stageAfter mostBisections f a b .parts)
+    go true h = subst (λ t. Worked t (stageAfter mostBisections f a b .parts)) (tallied (stageAfter mostBisections f a b) q) (counted f a b h mostBisections)
     go false h = absurd (refused-value (ap (λ s. exactBy (quadratureOf s)) (sym (first-refused f a b h)) ∙ q))
 
--- an integral was needed: 15 evaluations and 30 more for each of at most 2,000 bisections, and one part more than bisections
+-- an integral was needed: 15 evaluations and 30 more for each of at most mostBisections bisections, and one part more than bisections
 pub work-of-integral : (eigenvalues : List Float) (d : Float) (e : Estimate) → signsOf (weightsOf eigenvalues d) ≡ mixed → imhofOf eigenvalues d .answer ≡ Value e → Worked (e .tally) (imhofOf eigenvalues d .parts)
 unfolding imhofOf
 work-of-integral es d e m q = go (signsOf (weightsOf es d)) m (weightsOf es d) q

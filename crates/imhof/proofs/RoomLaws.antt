@@ -16,8 +16,8 @@ use Rattle.floats.specs.Tables.{table}
 use Rattle.floats.proofs.TurnLaws.{turns-more, turns-same}
 use Rattle.floats.proofs.TableLaws.{length-table, getD-table}
 use Rattle.imhof.specs.declared.Part.{Part}
-use Rattle.imhof.specs.Parts.{partAt, without}
-use Rattle.imhof.specs.Room.{stored, laidOut, storedAt, partsIn}
+use Rattle.imhof.specs.Parts.{mostParts, partAt, without}
+use Rattle.imhof.specs.Room.{PartRoom, leftEnds, rightEnds, values, errors, stored, laidOut, storedAt, partsIn}
 
 -- ---- four stores at four places
 
@@ -79,41 +79,41 @@ length-stored i p r = simp length-set
 -- storing what stands there changes nothing
 pub store-same : (i : ℕ) (r : List Float) → stored i (storedAt r i) r ≡ r
 unfolding stored storedAt
-store-same i r = rw (set-getD r i nan, set-getD r (2001 + i) nan, set-getD r (4002 + i) nan, set-getD r (6003 + i) nan)
+store-same i r = rw (set-getD r (leftEnds + i) nan, set-getD r (rightEnds + i) nan, set-getD r (values + i) nan, set-getD r (errors + i) nan)
 
-module _ (i : ℕ) (p : Part) (inside : i < 2001) where
+module _ (i : ℕ) (p : Part) (inside : i < mostParts) where
   -- a part is read back as it was stored
-  pub read-same : (r : List Float) → 8004 ≤ length r → storedAt (stored i p r) i ≡ p
+  pub read-same : (r : List Float) → PartRoom r → storedAt (stored i p r) i ≡ p
   unfolding stored storedAt
   read-same r room =
-      let e = read-four i (2001 + i) (4002 + i) (6003 + i) (omega arith) (omega arith) (omega arith) (p .lo) (p .hi) (p .value) (p .error) r (omega arith) in
+      let e = read-four (leftEnds + i) (rightEnds + i) (values + i) (errors + i) (omega arith) (omega arith) (omega arith) (p .lo) (p .hi) (p .value) (p .error) r (omega arith) in
       λ k. record { lo = e .0 k; hi = e .1 k; value = e .2 k; error = e .3 k }
 
   -- of two stores of one part the last counts
   pub store-over : (q : Part) (r : List Float) → stored i p (stored i q r) ≡ stored i p r
   unfolding stored
-  store-over q r = four-over i (2001 + i) (4002 + i) (6003 + i) (omega arith) (omega arith) (omega arith) (p .lo) (p .hi) (p .value) (p .error) (q .lo) (q .hi) (q .value) (q .error) r
+  store-over q r = four-over (leftEnds + i) (rightEnds + i) (values + i) (errors + i) (omega arith) (omega arith) (omega arith) (p .lo) (p .hi) (p .value) (p .error) (q .lo) (q .hi) (q .value) (q .error) r
 
-  module _ (j : ℕ) (here : j < 2001) (apart : i ≢ j) where
+  module _ (j : ℕ) (here : j < mostParts) (apart : i ≢ j) where
     pub read-other : (r : List Float) → storedAt (stored i p r) j ≡ storedAt r j
     unfolding stored storedAt
     read-other r =
-        let e = read-elsewhere i (2001 + i) (4002 + i) (6003 + i) (p .lo) (p .hi) (p .value) (p .error) r in
-        let e0 = e j (omega arith) (omega arith) (omega arith) (omega arith) in
-        let e1 = e (2001 + j) (omega arith) (omega arith) (omega arith) (omega arith) in
-        let e2 = e (4002 + j) (omega arith) (omega arith) (omega arith) (omega arith) in
-        let e3 = e (6003 + j) (omega arith) (omega arith) (omega arith) (omega arith) in
+        let e = read-elsewhere (leftEnds + i) (rightEnds + i) (values + i) (errors + i) (p .lo) (p .hi) (p .value) (p .error) r in
+        let e0 = e (leftEnds + j) (omega arith) (omega arith) (omega arith) (omega arith) in
+        let e1 = e (rightEnds + j) (omega arith) (omega arith) (omega arith) (omega arith) in
+        let e2 = e (values + j) (omega arith) (omega arith) (omega arith) (omega arith) in
+        let e3 = e (errors + j) (omega arith) (omega arith) (omega arith) (omega arith) in
         λ k. record { lo = e0 k; hi = e1 k; value = e2 k; error = e3 k }
 
     -- stores of two parts commute
     pub store-apart : (q : Part) (r : List Float) → stored j q (stored i p r) ≡ stored i p (stored j q r)
     unfolding stored
     store-apart q r =
-        let e = four-elsewhere i (2001 + i) (4002 + i) (6003 + i) (p .lo) (p .hi) (p .value) (p .error) in
-        ap (λ k. set (set (set k (2001 + j) (q .hi)) (4002 + j) (q .value)) (6003 + j) (q .error)) (e r j (q .lo) (omega arith) (omega arith) (omega arith) (omega arith))
-        ∙ ap (λ k. set (set k (4002 + j) (q .value)) (6003 + j) (q .error)) (e (set r j (q .lo)) (2001 + j) (q .hi) (omega arith) (omega arith) (omega arith) (omega arith))
-        ∙ ap (λ k. set k (6003 + j) (q .error)) (e (set (set r j (q .lo)) (2001 + j) (q .hi)) (4002 + j) (q .value) (omega arith) (omega arith) (omega arith) (omega arith))
-        ∙ e (set (set (set r j (q .lo)) (2001 + j) (q .hi)) (4002 + j) (q .value)) (6003 + j) (q .error) (omega arith) (omega arith) (omega arith) (omega arith)
+        let e = four-elsewhere (leftEnds + i) (rightEnds + i) (values + i) (errors + i) (p .lo) (p .hi) (p .value) (p .error) in
+        ap (λ k. set (set (set k (rightEnds + j) (q .hi)) (values + j) (q .value)) (errors + j) (q .error)) (e r (leftEnds + j) (q .lo) (omega arith) (omega arith) (omega arith) (omega arith))
+        ∙ ap (λ k. set (set k (values + j) (q .value)) (errors + j) (q .error)) (e (set r (leftEnds + j) (q .lo)) (rightEnds + j) (q .hi) (omega arith) (omega arith) (omega arith) (omega arith))
+        ∙ ap (λ k. set k (errors + j) (q .error)) (e (set (set r (leftEnds + j) (q .lo)) (rightEnds + j) (q .hi)) (values + j) (q .value) (omega arith) (omega arith) (omega arith) (omega arith))
+        ∙ e (set (set (set r (leftEnds + j) (q .lo)) (rightEnds + j) (q .hi)) (values + j) (q .value)) (errors + j) (q .error) (omega arith) (omega arith) (omega arith) (omega arith)
 
 -- ---- a list of parts, the first k of them stored
 
@@ -131,7 +131,7 @@ module _ (ps : List Part) where
   length-first (suc k) r = length-stored k (partAt ps k) (firstStored k r) ∙ length-first k r
 
   -- each of them is read back
-  read-first : (k i : ℕ) (r : List Float) → k ≤ 2001 → i < k → 8004 ≤ length r → storedAt (firstStored k r) i ≡ partAt ps i
+  read-first : (k i : ℕ) (r : List Float) → k ≤ mostParts → i < k → PartRoom r → storedAt (firstStored k r) i ≡ partAt ps i
   read-first zero i r fit h room = absurd (not-suc-le-zero h)
   read-first (suc k) i r fit h room =
       ap (λ l. storedAt l i) (stored-next k r)
@@ -141,14 +141,14 @@ module _ (ps : List Part) where
       (eq-or-lt-of-le {n = i} {m = k} (omega arith))
 
   -- a store of a later part may go last
-  first-apart : (k j : ℕ) (p : Part) (r : List Float) → k ≤ j → j < 2001 → firstStored k (stored j p r) ≡ stored j p (firstStored k r)
+  first-apart : (k j : ℕ) (p : Part) (r : List Float) → k ≤ j → j < mostParts → firstStored k (stored j p r) ≡ stored j p (firstStored k r)
   unfolding turns
   first-apart zero j p r h fit = refl
   first-apart (suc k) j p r h fit =
       ap (stored k (partAt ps k)) (first-apart k j p r (omega arith) fit) ∙ store-apart j p fit k (omega arith) (omega arith) (partAt ps k) (firstStored k r)
 
   -- a store that one of them goes over may be left out
-  first-absorbs : (k j : ℕ) (p : Part) (r : List Float) → k ≤ 2001 → j < k → firstStored k (stored j p r) ≡ firstStored k r
+  first-absorbs : (k j : ℕ) (p : Part) (r : List Float) → k ≤ mostParts → j < k → firstStored k (stored j p r) ≡ firstStored k r
   unfolding turns
   first-absorbs zero j p r fit h = absurd (not-suc-le-zero h)
   first-absorbs (suc k) j p r fit h =
@@ -158,7 +158,7 @@ module _ (ps : List Part) where
       (eq-or-lt-of-le {n = j} {m = k} (omega arith))
 
   -- one part replaced
-  first-set : (k w : ℕ) (p : Part) (r : List Float) → k ≤ 2001 → k ≤ length ps → w < k → stored w p (firstStored k r) ≡ turns k (λ i. stored i (partAt (set ps w p) i)) r
+  first-set : (k w : ℕ) (p : Part) (r : List Float) → k ≤ mostParts → k ≤ length ps → w < k → stored w p (firstStored k r) ≡ turns k (λ i. stored i (partAt (set ps w p) i)) r
   unfolding turns
   first-set zero w p r fit h l = absurd (not-suc-le-zero l)
   first-set (suc k) w p r fit h l =
@@ -181,7 +181,7 @@ unfolding laidOut
 length-laid ps r = length-first ps (length ps) r
 
 -- one part replaced, and one more
-pub laid-set : (ps : List Part) (w : ℕ) (p : Part) (r : List Float) → length ps ≤ 2001 → w < length ps → stored w p (laidOut ps r) ≡ laidOut (set ps w p) r
+pub laid-set : (ps : List Part) (w : ℕ) (p : Part) (r : List Float) → length ps ≤ mostParts → w < length ps → stored w p (laidOut ps r) ≡ laidOut (set ps w p) r
 unfolding laidOut
 laid-set ps w p r fit h = rw (length-set ps w p) (first-set ps (length ps) w p r fit (omega arith) h)
 
@@ -195,7 +195,7 @@ laid-more ps p r =
     ∙ ap (stored (length ps) p) (turns-same (λ i. stored i (partAt (ps ++ (p ∷ [])) i)) (λ i. stored i (partAt ps i)) (length ps) (λ i x b. ap (λ q. stored i q x) (List·getD-append ps (p ∷ []) _ i b)) r)))
 
 -- laid out over a list that is no longer, it is as if that had not been there
-pub laid-over : (ps qs : List Part) (r : List Float) → length qs ≤ 2001 → length ps ≤ length qs → laidOut qs (laidOut ps r) ≡ laidOut qs r
+pub laid-over : (ps qs : List Part) (r : List Float) → length qs ≤ mostParts → length ps ≤ length qs → laidOut qs (laidOut ps r) ≡ laidOut qs r
 unfolding laidOut
 laid-over ps qs r fit h = go (length ps) h
   where
@@ -213,7 +213,7 @@ pub part-in : (n i : ℕ) (r : List Float) → i < n → partAt (partsIn n r) i 
 unfolding partsIn
 part-in n i r h = getD-table (λ i. storedAt r i) n i _ h
 
-pub in-laid : (ps : List Part) (r : List Float) → length ps ≤ 2001 → 8004 ≤ length r → partsIn (length ps) (laidOut ps r) ≡ ps
+pub in-laid : (ps : List Part) (r : List Float) → length ps ≤ mostParts → PartRoom r → partsIn (length ps) (laidOut ps r) ≡ ps
 unfolding laidOut
 in-laid ps r fit room =
     ext-getD (record { lo = nan; hi = nan; value = nan; error = nan }) (partsIn (length ps) (laidOut ps r)) ps (length-in (length ps) (laidOut ps r))
@@ -245,7 +245,7 @@ run-in g a n r at none fit =
 
 -- ---- a bisection in place: the last of the parts goes to w, the halves to the end
 
-module _ (ps : List Part) (w : ℕ) (fit : length ps < 2001) (here : w < length ps) where
+module _ (ps : List Part) (w : ℕ) (fit : length ps < mostParts) (here : w < length ps) where
   last-moves : set ps w (partAt ps (length ps - 1)) ≡ without w ps ++ (partAt ps (length ps - 1) ∷ [])
   last-moves =
       let m : ℕ = length ps - 1 in
@@ -277,7 +277,7 @@ module _ (ps : List Part) (w : ℕ) (fit : length ps < 2001) (here : w < length 
       ∙ ap (λ l. laidOut l r) (append-assoc ys (left ∷ []) (right ∷ []))
 
 -- the same over the first n parts of a room
-pub replaced-in : (n w : ℕ) (left right : Part) (r : List Float) → w < n → n < 2001
+pub replaced-in : (n w : ℕ) (left right : Part) (r : List Float) → w < n → n < mostParts
     → stored n right (stored (n - 1) left (stored w (storedAt r (n - 1)) r)) ≡ laidOut (without w (partsIn n r) ++ (left ∷ right ∷ [])) r
 replaced-in n w left right r here fit =
     let few = length-in n r in

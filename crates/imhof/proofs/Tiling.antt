@@ -1,5 +1,5 @@
 -- After any number of turns the parts are a reordering of a chain from one end of the range to the other: neighbours share an end to the bit, also where a middle equals an end. There
--- is one part more than bisections, at most 2,001, and 15 evaluations and 30 more for each bisection. One idea: a bisection puts two links for one. Assumes nothing.
+-- is one part more than bisections, and no more bisections than turns; there are 15 evaluations and 30 more for each bisection. One idea: a bisection puts two links for one. Assumes nothing.
 use mathlib.Core.Path.{_≡_, refl, sym, ap, _∙_, subst}
 use mathlib.Core.Logic.{_⊎_, inl, inr, ⊎-elim}
 use mathlib.Core.Bool.{Bool, true, false, cond}

@@ -21,7 +21,7 @@ use Rattle.imhof.specs.Weights.{weightsOf, Signs, none, above, below, mi
 use Rattle.elementary.specs.Patterns.{half}
 use Rattle.imhof.specs.Range.{lowEnd, highEnd}
 use Rattle.imhof.specs.Integrand.{integrandOf}
-use Rattle.imhof.specs.Parts.{Stage, stage, stageAfter, valuesOf, errorsOf, tolerance}
+use Rattle.imhof.specs.Parts.{mostBisections, Stage, stage, stageAfter, valuesOf, errorsOf, tolerance}
 
 -- what the parts of a stage add up to, first to last
 abbrev pub integralOf : Stage → Integral
@@ -40,9 +40,9 @@ quadratureBy Refused s = Broken
 abbrev pub quadratureOf : Stage → Quadrature
 quadratureOf s = quadratureBy (s .standing) s
 
--- the stage after at most 2,000 bisections of the weights' range, where both of its ends are finite
+-- the stage after the most bisections of the weights' range, where both of its ends are finite
 abbrev pub lastStageBy : Bool → List Float → Stage
-lastStageBy true ws = stageAfter 2000 (integrandOf ws) (lowEnd ws) (highEnd ws)
+lastStageBy true ws = stageAfter mostBisections (integrandOf ws) (lowEnd ws) (highEnd ws)
 lastStageBy false ws = stage [] noWork Refused
 
 abbrev pub lastStage : List Float → Stage

@@ -1,6 +1,6 @@
 -- Adaptive quadrature: a list of parts, of which the one with the greatest error is bisected until the summed error is small enough.
 -- Definitions only. Assumes nothing.
-use Prim.Native.Nat.{ℕ, _-_}
+use Prim.Native.Nat.{ℕ, _+_, _-_}
 use mathlib.Core.Bool.{Bool, true, false, _&&_, cond}
 use mathlib.Core.List.{List, [], _∷_, _++_, map}
 use lib.ListN.{length, getD, take, set}
@@ -16,6 +16,13 @@ use Rattle.imhof.specs.declared.Part.{Part}
 use Rattle.imhof.specs.declared.Standing.{Standing}
 use Rattle.imhof.specs.declared.Standing.the-variants.{Open, Settled, Refused}
 use Rattle.imhof.specs.Rule.{gk15Of, middleOf, ruleSize}
+
+-- how many bisections there are at most, and so how many parts: src/lib.rt's MOST_BISECTIONS and MOST_PARTS
+abbrev pub mostBisections : ℕ
+mostBisections = 2000
+
+abbrev pub mostParts : ℕ
+mostParts = mostBisections + 1
 
 -- part t of a list; there is none past the end
 abbrev pub partAt : List Part → ℕ → Part

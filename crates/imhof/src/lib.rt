@@ -4,11 +4,13 @@ ghost use mathlib.Core.Path.{_≡_};
 ghost use mathlib.Core.Bool.{true};
 ghost use Prim.Native.Nat.{_≤_};
 ghost use lib.ListN.{length};
+ghost use Rattle.floats.specs.Limits.{maxRows};
 ghost use Rattle.floats.specs.Count.{noWork};
 ghost use Rattle.imhof.specs.Imhof.{imhofOf, outcomeBy, exactBy, clampOf, estimateOf};
 ghost use Rattle.imhof.specs.declared.Exact.the-variants.{Value};
 ghost use Rattle.imhof.specs.Weights.{signsOf};
-ghost use Rattle.imhof.specs.Room.{laidOut};
+ghost use Rattle.imhof.specs.Room.{PartRoom, laidOut};
+use floats::limits::MAX_ROWS;
 use floats::tally::Tally;
 
 pub mod adaptive;
@@ -16,6 +18,15 @@ pub mod range;
 mod room;
 pub mod rule;
 pub mod weights;
+
+// The quadrature stops after so many bisections.
+pub const MOST_BISECTIONS: usize = 2_000;
+
+// Each bisection makes one part more.
+pub const MOST_PARTS: usize = MOST_BISECTIONS + 1;
+
+// The part room's length: four numbers for each part.
+pub const PART_ROOM: usize = 4 * MOST_PARTS;
 
 // A part of the range: its ends, its integral by Kronrod's rule, and the distance from Gauss's.
 pub struct Part {
@@ -57,7 +68,7 @@ pub struct Estimate {
 pub enum Exact {
     // Each eigenvalue equals the statistic: there is no exact value.
     NoWeight,
-    // Refusal 13, stage 4.
+    // An end of the range, or a part's value or error estimate, is not finite.
     NotFinite,
     Value(Estimate),
 }
@@ -109,7 +120,7 @@ fn from_integral(found: Quadrature) -> Exact
 
 // The probability for given weights, none of them 0.
 fn below_zero(weights: &[f64], parts: &mut [f64]) -> Exact
-    requires { ⌜ (length (now weights) ≤ 256) × (8004 ≤ length (now parts)) ⌝ }
+    requires { ⌜ (length (now weights) ≤ maxRows) × PartRoom (now parts) ⌝ }
     ensures { λ r. ⌜ r ≡ outcomeBy (signsOf (now (weights .entry))) (now (weights .entry)) .answer ⌝ }
     ensures { λ _. ⌜ now (parts .exit) ≡ laidOut (outcomeBy (signsOf (now (weights .entry))) (now (weights .entry)) .parts) (now (parts .entry)) ⌝ }
 {
@@ -126,13 +137,13 @@ fn below_zero(weights: &[f64], parts: &mut [f64]) -> Exact
 }
 
 // P(sum of (eigenvalue - d) z² < 0) for independent standard normal z: the lower tail of the statistic at d.
-// `parts` is the part room, at least 8,004 numbers; it keeps the parts of the last stage.
+// `parts` is the part room, at least PART_ROOM numbers; it keeps the parts of the last stage.
 pub fn prob_below_zero(eigenvalues: &[f64], d: f64, parts: &mut [f64]) -> Exact
-    requires { ⌜ (length (now eigenvalues) ≤ 256) × (8004 ≤ length (now parts)) ⌝ }
+    requires { ⌜ (length (now eigenvalues) ≤ maxRows) × PartRoom (now parts) ⌝ }
     ensures { λ r. ⌜ r ≡ imhofOf (now (eigenvalues .entry)) d .answer ⌝ }
     ensures { λ _. ⌜ now (parts .exit) ≡ laidOut (imhofOf (now (eigenvalues .entry)) d .parts) (now (parts .entry)) ⌝ }
 {
-    let mut weights = [0.0f64; 256];
+    let mut weights = [0.0f64; MAX_ROWS];
     let m = weights::shift(eigenvalues, d, &mut weights);
     below_zero(&weights[..m], parts)
 }

@@ -2,6 +2,7 @@
 ghost use mathlib.Core.Path.{_≡_};
 ghost use Prim.Native.Nat.{_≤_};
 ghost use lib.ListN.{length};
+ghost use Rattle.floats.specs.Limits.{maxRows};
 ghost use Rattle.imhof.specs.Range.{halfAbsSum, halfLogProd, twoByCount, lowEnd, highEnd};
 
 // A quarter of 1e-11.
@@ -28,7 +29,7 @@ fn half_log_prod(weights: &[f64]) -> f64
 }
 
 fn two_by_count(weights: &[f64]) -> f64
-    requires { ⌜ length (now weights) ≤ 256 ⌝ }
+    requires { ⌜ length (now weights) ≤ maxRows ⌝ }
     ensures { λ r. ⌜ r ≡ twoByCount (now (weights .entry)) ⌝ }
 {
     2.0 / weights.len() as f64
@@ -43,7 +44,7 @@ pub fn low_end(weights: &[f64]) -> f64
 
 // The integral from u on is at most (2 / m) u^(-m/2) / prod |w|^(1/2), m the number of weights.
 pub fn high_end(weights: &[f64]) -> f64
-    requires { ⌜ length (now weights) ≤ 256 ⌝ }
+    requires { ⌜ length (now weights) ≤ maxRows ⌝ }
     ensures { λ r. ⌜ r ≡ highEnd (now (weights .entry)) ⌝ }
 {
     let t = two_by_count(weights);

@@ -14,6 +14,9 @@ pub struct Halves {
     pub right: Part,
 }
 
+// How many points the rule has.
+pub const RULE_SIZE: usize = 15;
+
 // Nodes on [0, 1], from the outermost to 0.
 const GK_X: [f64; 8] = [
     0.991_455_371_120_812_6,
@@ -101,7 +104,7 @@ pub fn gk15(weights: &[f64], a: f64, b: f64) -> Part
     gk15_by(&points, weights, a, b)
 }
 
-// The two halves of a part: 30 evaluations are counted.
+// The two halves of a part: 2 * RULE_SIZE evaluations are counted.
 pub fn bisect(weights: &[f64], p: Part) -> Halves
     ensures { λ r. ⌜ (r .left ≡ leftHalf (integrandOf (now (weights .entry))) p) × (r .right ≡ rightHalf (integrandOf (now (weights .entry))) p) ⌝ }
 {

@@ -8,6 +8,7 @@ use mathlib.Core.List.{List}
 use lib.ListN.{length}
 use lib.Ieee.{Float, nan, neg, sub}
 use borrow.Author.Tests.{lt-ltb, le-ltb}
+use Rattle.floats.specs.Limits.{maxRows}
 use Rattle.floats.specs.Words.{_⊕_, _⊖_, _⊗_, _‼_, minusZero, plusZero}
 use Rattle.floats.specs.Tables.{table, triangle, half, withPart}
 use Rattle.floats.specs.Matrix.{halfEntry}
@@ -75,8 +76,8 @@ pub row-moved : (m here : List Float) (n s k : ℕ) → k ≡ n → here ≡ row
 row-moved m here n s k e q = rw e (table-same _ _ n (λ j l. rw q (getD-table (halfEntry m s) n j nan l)))
 
 -- what the copy asks
-pub row-fits : (m row : List Float) (n s : ℕ) → length m ≡ triangle n → n ≤ 256 → s < n → length row ≡ n
-    → (s < 256) × (0 + length row ≤ 256) × (triangle (s + 1) ≤ length m) × (triangle (0 + length row) ≤ length m)
+pub row-fits : (m row : List Float) (n s : ℕ) → length m ≡ triangle n → n ≤ maxRows → s < n → length row ≡ n
+    → (s < maxRows) × (0 + length row ≤ maxRows) × (triangle (s + 1) ≤ length m) × (triangle (0 + length row) ≤ length m)
 row-fits m row n s e b h l =
     (omega arith, omega arith, omega (arith, triangle-up {i = s + 1} {r = n} (omega arith)), rw (zero-add, l, e) (omega arith))
 

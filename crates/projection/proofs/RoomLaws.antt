@@ -15,6 +15,7 @@ use Rattle.floats.specs.Words.{_⊗_, _‼_, plusZero, minusZero}
 use Rattle.floats.specs.Sums.{sumOf}
 use Rattle.floats.specs.Tables.{table, triangle, half, part, withPart}
 use Rattle.floats.specs.Matrix.{entry, halfEntry, halfOf}
+use Rattle.floats.specs.Limits.{matrixRoom}
 use Rattle.floats.proofs.Commutes.{product-swap}
 use Rattle.floats.proofs.ListLaws.{length-part}
 use Rattle.floats.proofs.TableLaws.{length-table, getD-table}
@@ -209,7 +210,7 @@ module _ (x : List Float) (inv : List (List Float)) (n k : ℕ) (l : List Float)
 
 -- the lower triangles are those of the whole matrices; and M A M, read off the room
 module _ (x : List Float) (inv : List (List Float)) (n k : ℕ) (q l : List Float) (e : q ≡ half (product x inv n k) n ++ (half (residual x inv n k) n ++ drop (triangle n + triangle n) l)) where
-  pub room-wholes : q ≡ halfOf n (mamOf x inv n k) ++ (halfOf n (residualMaker x inv n k) ++ drop (n * (n + 1)) l)
+  pub room-wholes : q ≡ halfOf n (mamOf x inv n k) ++ (halfOf n (residualMaker x inv n k) ++ drop (matrixRoom n) l)
   room-wholes = rw (half-symmetric n (product x inv n k), half-symmetric n (residual x inv n k), ← triangle-twice n) e
 
   pub first-of : take (triangle n) q ≡ halfOf n (mamOf x inv n k)

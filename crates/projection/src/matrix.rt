@@ -8,12 +8,13 @@ ghost use lib.Ieee.{neg};
 ghost use Rattle.floats.specs.Words.{_⊕_, _⊖_, _⊗_, _‼_, plusZero, one};
 ghost use Rattle.floats.specs.Tables.{table, triangle, half, withPart};
 ghost use Rattle.floats.specs.Matrix.{halfEntry};
+ghost use Rattle.floats.specs.Limits.{maxRows, Square};
 ghost use Rattle.rows.specs.Terms.{Reach, sumFrom};
 
 // Adds to row i, up to the diagonal, the runs in `xs`, each `stride` on from the one before, each times its number of
 // `w`.
 pub fn add_to_row(a: &mut [f64], i: usize, xs: &[f64], stride: usize, w: &[f64])
-    requires { ⌜ (i < 256) × (triangle (i + 1) ≤ length (now a)) × (Reach (length (now w)) stride (i + 1) (length (now xs))) ⌝ }
+    requires { ⌜ (i < maxRows) × (triangle (i + 1) ≤ length (now a)) × (Reach (length (now w)) stride (i + 1) (length (now xs))) ⌝ }
     ensures { λ _. ⌜ now (a .exit) ≡ withPart (triangle i) (triangle i + (i + 1)) (now (a .entry)) (table (λ c. sumFrom (now (a .entry) ‼ (triangle i + c)) (length (now (w .entry))) (λ s. now (xs .entry) ‼ (s * stride + c) ⊗ now (w .entry) ‼ s)) (i + 1)) ⌝ }
 {
     let start = rows::half::place(i, 0);
@@ -32,7 +33,7 @@ pub fn negate(a: &mut [f64])
 
 // Adds 1 to the entries on the diagonal.
 pub fn add_identity(a: &mut [f64], n: usize)
-    requires { ⌜ (length (now a) ≡ triangle n) × (n ≤ 256) ⌝ }
+    requires { ⌜ Square n (now a) ⌝ }
     ensures { λ _. ⌜ now (a .exit) ≡ half (λ i j. cond (eqb i j) (one ⊕ halfEntry (now (a .entry)) i j) (halfEntry (now (a .entry)) i j)) n ⌝ }
 {
     for i in 0..n {

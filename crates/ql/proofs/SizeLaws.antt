@@ -10,10 +10,10 @@ use lib.IntN.{ℤ, pos}
 use lib.Ieee.{Float, nan, inf, fin, binary64, up, down, neg, lt, le, round, sum, add, mul, ofBits}
 use lib.Ieee.Fits.{up-pos, down-pos}
 use lib.Ieee.Scale.{round-same}
-use Rattle.floats.specs.Words.{_⊕_, _⊗_, float}
+use Rattle.floats.specs.Words.{_⊕_, _⊗_}
 use Rattle.floats.specs.Signs.{absOf}
 use Rattle.floats.proofs.Commutes.{sum-swap}
-use Rattle.ql.specs.Rotation.{negligible}
+use Rattle.ql.specs.Rotation.{epsilon, negligible}
 
 abbrev pub sizeOf : Float → Float
 sizeOf x = cond (lt x (neg x)) (neg x) x
@@ -92,7 +92,7 @@ unfolding round
 round-nothing s e d = round-same binary64 s 0 (down e * down d) 0 1 (mul-pos (down-pos e) (down-pos d)) (omega arith) (sym (zero-mul (down e * down d)))
 
 abbrev test : Float → Float → Bool
-test x y = le (absOf x) (float 0x3cb0000000000000 ⊗ y)
+test x y = le (absOf x) (epsilon ⊗ y)
 
 zero-plus-zero : (x : Float) (e d : ℤ) → test x (fin true 0 e ⊕ fin true 0 d) ≡ test x (fin false 0 e ⊕ fin false 0 d)
 unfolding mul ofBits add

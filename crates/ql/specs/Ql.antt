@@ -1,4 +1,4 @@
--- The implicit QL algorithm: each index in turn, at most 60 sweeps an index. Definitions only. Assumes nothing.
+-- The implicit QL algorithm: each index in turn, with a limit of sweeps an index. Definitions only. Assumes nothing.
 use Prim.Native.Nat.{ℕ, zero, suc, _-_}
 use mathlib.Core.Bool.{Bool, false, not, _||_, cond}
 use mathlib.Core.List.{List}
@@ -7,6 +7,10 @@ use lib.Ieee.{Float}
 use Rattle.floats.specs.Count.{oneSweep}
 use Rattle.floats.specs.declared.tally.Tally.{Tally}
 use Rattle.ql.specs.Sweep.{Bands, blockEnd, sweepOf}
+
+-- the limit
+abbrev pub mostSweeps : ℕ
+mostSweeps = 60
 
 -- the matrix, and the work done on it
 pub record Worked : Type 0 where
@@ -27,7 +31,7 @@ unfoldable pub qlOf : ℕ → ℕ → List Float → List Float → Tally → Wo
 qlOf n zero d e w = record { diagonal = d; coupling = e; work = w }
 qlOf n (suc l) d e w =
     let before : Worked = qlOf n l d e w in
-    settled n l 60 (before .diagonal) (before .coupling) (before .work)
+    settled n l mostSweeps (before .diagonal) (before .coupling) (before .work)
 
 -- how many sweeps index l's turn made
 abbrev pub turnSweeps : ℕ → ℕ → List Float → List Float → Tally → ℕ

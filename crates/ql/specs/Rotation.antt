@@ -8,9 +8,13 @@ use Rattle.roots.specs.Hypot.{hypotOf}
 use Rattle.ql.specs.declared.Rotation.{Rotation}
 use Rattle.ql.specs.declared.Rotated.{Rotated}
 
+-- 2^-52
+abbrev pub epsilon : Float
+epsilon = float 0x3cb0000000000000
+
 -- the coupling e is negligible beside the diagonal entries above and below it: |e| ≤ 2^-52 (|above| + |below|)
 unfoldable pub negligible : Float → Float → Float → Bool
-negligible e above below = le (absOf e) (float 0x3cb0000000000000 ⊗ (absOf above ⊕ absOf below))
+negligible e above below = le (absOf e) (epsilon ⊗ (absOf above ⊕ absOf below))
 
 -- the rotation of s, c, g, p at the diagonal entries d and next that e couples, where r = hypot (s e) g is not 0
 abbrev pub turned : Rotation → Float → Float → Float → Float → Rotated

@@ -5,11 +5,11 @@ ghost use mathlib.Core.Path.{_≡_};
 ghost use Prim.Native.Nat.{_+_, _*_, _^_, _≤_, _<_};
 ghost use lib.ListN.{length};
 ghost use lib.Ieee.{lt, le, neg};
-ghost use Rattle.floats.specs.Words.{_⊕_, _⊗_, float};
+ghost use Rattle.floats.specs.Words.{_⊕_, _⊗_};
 ghost use Rattle.floats.specs.Signs.{absOf};
-ghost use Rattle.ql.specs.Rotation.{rotated};
+ghost use Rattle.ql.specs.Rotation.{epsilon, rotated};
 ghost use Rattle.ql.specs.Sweep.{blockEnd, shiftOf, sweepOf};
-ghost use Rattle.ql.specs.Ql.{settled, qlOf, couplingLeft, stuckOf};
+ghost use Rattle.ql.specs.Ql.{mostSweeps, settled, qlOf, couplingLeft, stuckOf};
 ghost use mathlib.Core.Bool.{_||_, cond};
 use floats::tally::Tally;
 
@@ -37,11 +37,14 @@ fn size(x: f64) -> f64
     if x < -x { -x } else { x }
 }
 
+// 2^-52, one unit in the last place of 1.
+const EPSILON: f64 = 2.220446049250313e-16;
+
 // Whether the coupling `e` is negligible beside diagonal entries of the sizes `above` and `below`.
 fn is_negligible(e: f64, above: f64, below: f64) -> bool
-    ensures { λ r. ⌜ r ≡ le (absOf e) (float 0x3cb0000000000000 ⊗ (above ⊕ below)) ⌝ }
+    ensures { λ r. ⌜ r ≡ le (absOf e) (epsilon ⊗ (above ⊕ below)) ⌝ }
 {
-    size(e) <= 2.220446049250313e-16 * (above + below)
+    size(e) <= EPSILON * (above + below)
 }
 
 // The last index of the block that begins at `l`: the first from `l` on whose coupling is
@@ -135,15 +138,18 @@ fn sweep(d: &mut [f64], e: &mut [f64], l: usize, m: usize)
     e[m] = 0.0;
 }
 
-// Index `l`'s turn: sweeps until its coupling is negligible, 60 at most; then on, silently.
+// How many sweeps an index's turn may make.
+const MOST_SWEEPS: usize = 60;
+
+// Index `l`'s turn: sweeps until its coupling is negligible, or as many as it may make; then on, silently.
 fn settle(d: &mut [f64], e: &mut [f64], n: usize, l: usize, work: Tally) -> Tally
-    requires { ⌜ (l < n) × (n ≤ length (now d)) × (n ≤ length (now e)) × (work .sweeps + 60 < 2 ^ 64) ⌝ }
-    ensures { λ r. ⌜ r ≡ settled n l 60 (now (d .entry)) (now (e .entry)) work .work ⌝ }
-    ensures { λ _. ⌜ now (d .exit) ≡ settled n l 60 (now (d .entry)) (now (e .entry)) work .diagonal ⌝ }
-    ensures { λ _. ⌜ now (e .exit) ≡ settled n l 60 (now (d .entry)) (now (e .entry)) work .coupling ⌝ }
+    requires { ⌜ (l < n) × (n ≤ length (now d)) × (n ≤ length (now e)) × (work .sweeps + mostSweeps < 2 ^ 64) ⌝ }
+    ensures { λ r. ⌜ r ≡ settled n l mostSweeps (now (d .entry)) (now (e .entry)) work .work ⌝ }
+    ensures { λ _. ⌜ now (d .exit) ≡ settled n l mostSweeps (now (d .entry)) (now (e .entry)) work .diagonal ⌝ }
+    ensures { λ _. ⌜ now (e .exit) ≡ settled n l mostSweeps (now (d .entry)) (now (e .entry)) work .coupling ⌝ }
 {
     let mut tally = work;
-    for turn in 0..60usize {
+    for turn in 0..MOST_SWEEPS {
         let m = block_end(d, e, n, l);
         if m == l {
             return tally;
@@ -173,10 +179,10 @@ fn stuck_with(d: &[f64], e: &[f64], n: usize, l: usize, stuck: bool) -> bool
 
 // Index `l`'s turn, and one look more: whether a coupling is left at it then, or was at an index before it.
 fn settle_and_look(d: &mut [f64], e: &mut [f64], n: usize, l: usize, before: Swept) -> Swept
-    requires { ⌜ (l < n) × (n ≤ length (now d)) × (n ≤ length (now e)) × (before .work .sweeps + 60 < 2 ^ 64) ⌝ }
-    ensures { λ r. ⌜ (r .stuck ≡ (before .stuck || couplingLeft n (settled n l 60 (now (d .entry)) (now (e .entry)) (before .work) .diagonal) (settled n l 60 (now (d .entry)) (now (e .entry)) (before .work) .coupling) l)) × (r .work ≡ settled n l 60 (now (d .entry)) (now (e .entry)) (before .work) .work) ⌝ }
-    ensures { λ _. ⌜ now (d .exit) ≡ settled n l 60 (now (d .entry)) (now (e .entry)) (before .work) .diagonal ⌝ }
-    ensures { λ _. ⌜ now (e .exit) ≡ settled n l 60 (now (d .entry)) (now (e .entry)) (before .work) .coupling ⌝ }
+    requires { ⌜ (l < n) × (n ≤ length (now d)) × (n ≤ length (now e)) × (before .work .sweeps + mostSweeps < 2 ^ 64) ⌝ }
+    ensures { λ r. ⌜ (r .stuck ≡ (before .stuck || couplingLeft n (settled n l mostSweeps (now (d .entry)) (now (e .entry)) (before .work) .diagonal) (settled n l mostSweeps (now (d .entry)) (now (e .entry)) (before .work) .coupling) l)) × (r .work ≡ settled n l mostSweeps (now (d .entry)) (now (e .entry)) (before .work) .work) ⌝ }
+    ensures { λ _. ⌜ now (d .exit) ≡ settled n l mostSweeps (now (d .entry)) (now (e .entry)) (before .work) .diagonal ⌝ }
+    ensures { λ _. ⌜ now (e .exit) ≡ settled n l mostSweeps (now (d .entry)) (now (e .entry)) (before .work) .coupling ⌝ }
 {
     let work = settle(d, e, n, l, before.work);
     let stuck = stuck_with(d, e, n, l, before.stuck);
@@ -185,7 +191,7 @@ fn settle_and_look(d: &mut [f64], e: &mut [f64], n: usize, l: usize, before: Swe
 
 // Every index's turn. The first `n` numbers of `d` end as the eigenvalues, in no order.
 pub fn ql(d: &mut [f64], e: &mut [f64], n: usize, work: Tally) -> Swept
-    requires { ⌜ (n ≤ length (now d)) × (n ≤ length (now e)) × (work .sweeps + 60 * n < 2 ^ 64) ⌝ }
+    requires { ⌜ (n ≤ length (now d)) × (n ≤ length (now e)) × (work .sweeps + mostSweeps * n < 2 ^ 64) ⌝ }
     ensures { λ r. ⌜ (r .work ≡ qlOf n n (now (d .entry)) (now (e .entry)) work .work) × (r .stuck ≡ stuckOf n n (now (d .entry)) (now (e .entry)) work) ⌝ }
     ensures { λ _. ⌜ now (d .exit) ≡ qlOf n n (now (d .entry)) (now (e .entry)) work .diagonal ⌝ }
     ensures { λ _. ⌜ now (e .exit) ≡ qlOf n n (now (d .entry)) (now (e .entry)) work .coupling ⌝ }

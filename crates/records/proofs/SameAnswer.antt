@@ -21,7 +21,7 @@ use Rattle.imhof.specs.declared.Quadrature.the-variants.{Sum}
 use Rattle.imhof.specs.declared.Standing.the-variants.{Open, Settled, Refused}
 use Rattle.imhof.specs.Imhof.{integralOf, quadratureOf}
 use Rattle.imhof.specs.Rule.{gk15Of}
-use Rattle.imhof.specs.Parts.{partAt, valuesOf, errorsOf, worstOf, without, leftHalf, rightHalf, bisectedAt, finitePart, Stage, stage, tolerance, oneRule, nextStage, stageAfter}
+use Rattle.imhof.specs.Parts.{mostBisections, mostParts, partAt, valuesOf, errorsOf, worstOf, without, leftHalf, rightHalf, bisectedAt, finitePart, Stage, stage, tolerance, oneRule, nextStage, stageAfter}
 use Rattle.imhof.proofs.StageLaws.{next-settled, next-bisected, next-refused, stays-settled, stays-refused, first-open, first-broken, stage-next}
 use Rattle.records.specs.declared.course.Look.{Look}
 use Rattle.records.specs.declared.course.Course.{Course}
@@ -62,7 +62,7 @@ split-front l w k p q h inside = rw (less-one k, add-one (k + 1), add-one k) (sp
 
 -- ---- turn by turn
 
-module _ (f : Float → Float) (a b : Float) (ys : List Part) (room : 2001 ≤ length ys) where
+module _ (f : Float → Float) (a b : Float) (ys : List Part) (room : mostParts ≤ length ys) where
   abbrev C : ℕ → Course
   C k = after f a b ys k .course
 
@@ -96,7 +96,7 @@ module _ (f : Float → Float) (a b : Float) (ys : List Part) (room : 2001 ≤ l
       inr (ap (λ (z : Course). z .more) c, ap foundOf c ∙ sym (ap quadratureOf s), ap (nextStage f) s ∙ stays-refused f [] noWork ∙ sym s)
 
   -- one turn of an open stage over n = k + 1 records
-  module _ (k : ℕ) (fit : k < 2001) (going : Going k) where
+  module _ (k : ℕ) (fit : k < mostParts) (going : Going k) where
     abbrev n : ℕ
     n = k + 1
 
@@ -130,15 +130,15 @@ module _ (f : Float → Float) (a b : Float) (ys : List Part) (room : 2001 ≤ l
         ap foundOf e ∙ ap₂ (λ (x y : Float). Sum (record { value = x; error = y; tally = t })) value-is error-is ∙ sym q
 
     -- no room for another bisection
-    pub at-full : 2001 ≤ n → foundOf (decided f a b ys k) ≡ quadratureOf (S k)
-    at-full full = told (decided f a b ys k) (S k) (turned-full f (C k) l n (going .0) (le-leb 2001 n full)) (ap quadratureOf (going .1))
+    pub at-full : mostParts ≤ n → foundOf (decided f a b ys k) ≡ quadratureOf (S k)
+    at-full full = told (decided f a b ys k) (S k) (turned-full f (C k) l n (going .0) (le-leb mostParts n full)) (ap quadratureOf (going .1))
 
-    module _ (space : n < 2001) where
+    module _ (space : n < mostParts) where
       next : S n ≡ nextStage f (stage ps t Open)
       next = stage-next f a b k ∙ ap (nextStage f) (going .1)
 
-      apart : leb 2001 n ≡ false
-      apart = lt-leb 2001 n space
+      apart : leb mostParts n ≡ false
+      apart = lt-leb mostParts n space
 
       is-settled : le (sumRun (errorsOf ps)) tolerance ≡ true → Going n ⊎ Shut n
       is-settled small =
@@ -185,13 +185,13 @@ module _ (f : Float → Float) (a b : Float) (ys : List Part) (room : 2001 ≤ l
       let s : S (k + 1) ≡ S k = stage-next f a b k ∙ h .2 in
       (ap (λ (z : Work). z .course .more) w ∙ h .0, ap (λ (z : Work). foundOf (z .course)) w ∙ h .1 ∙ sym (ap quadratureOf s), ap (nextStage f) s ∙ h .2 ∙ sym s)
 
-  matched : (k : ℕ) → k ≤ 2000 → Going k ⊎ Shut k
+  matched : (k : ℕ) → k ≤ mostBisections → Going k ⊎ Shut k
   matched zero h = at-first (finitePart whole) refl
   matched (suc k) h =
       rw (← add-one k) (⊎-elim (λ g. turn-on k (omega arith) g (omega arith)) (λ s. inr (still-shut k s)) (matched k (omega arith)))
 
-  -- what the records give after 2,001 turns is what the stages give after 2,000
-  pub same-answer : foundOf (after f a b ys 2001 .course) ≡ quadratureOf (stageAfter 2000 f a b)
+  -- what the records give after mostParts turns is what the stages give after mostBisections
+  pub same-answer : foundOf (after f a b ys mostParts .course) ≡ quadratureOf (stageAfter mostBisections f a b)
   same-answer =
-      ⊎-elim (λ g. ap foundOf (sym (next-course f a b ys 2000)) ∙ at-full 2000 (omega arith) g (omega arith))
-      (λ s. ap (λ (z : Work). foundOf (z .course)) (stays f a b ys 2000 (s .0)) ∙ s .1) (matched 2000 (omega arith))
+      ⊎-elim (λ g. ap foundOf (sym (next-course f a b ys mostBisections)) ∙ at-full mostBisections (omega arith) g (omega arith))
+      (λ s. ap (λ (z : Work). foundOf (z .course)) (stays f a b ys mostBisections (s .0)) ∙ s .1) (matched mostBisections (omega arith))

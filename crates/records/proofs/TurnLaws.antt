@@ -5,7 +5,7 @@ use Prim.Native.Nat.{ℕ}
 use lib.Dec.{leb}
 use lib.Ieee.{Float, le}
 use Rattle.floats.specs.Count.{oneBisection}
-use Rattle.imhof.specs.Parts.{finitePart, leftHalf, rightHalf, tolerance, oneRule}
+use Rattle.imhof.specs.Parts.{mostParts, finitePart, leftHalf, rightHalf, tolerance, oneRule}
 use Rattle.records.specs.declared.course.Look.{Look}
 use Rattle.records.specs.declared.course.Course.{Course}
 use Rattle.records.specs.Records.{courseOf, lookedBy, turnedOf}
@@ -19,11 +19,11 @@ module _ (f : Float → Float) (c : Course) (l : Look) (n : ℕ) where
   turned-shut h = rw h
 
   module _ (more : c .more ≡ true) where
-    pub turned-full : leb 2001 n ≡ true → turnedOf f c l n ≡ courseOf false false l (l .greatest) (l .greatest) (c .tally)
+    pub turned-full : leb mostParts n ≡ true → turnedOf f c l n ≡ courseOf false false l (l .greatest) (l .greatest) (c .tally)
     unfolding turnedOf
     turned-full h = rw (more, h)
 
-    module _ (space : leb 2001 n ≡ false) where
+    module _ (space : leb mostParts n ≡ false) where
       pub turned-small : le (l .error) tolerance ≡ true → turnedOf f c l n ≡ courseOf false false l (l .greatest) (l .greatest) (c .tally)
       unfolding turnedOf
       turned-small h = rw (more, space, h)

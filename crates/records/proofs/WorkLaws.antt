@@ -15,8 +15,8 @@ use borrow.Author.Tests.{leb-false}
 use Rattle.floats.specs.Turns.{turns}
 use Rattle.floats.specs.declared.tally.Tally.{Tally}
 use Rattle.imhof.specs.declared.Part.{Part}
-use Rattle.imhof.specs.Rule.{gk15Of}
-use Rattle.imhof.specs.Parts.{finitePart, leftHalf, rightHalf, tolerance}
+use Rattle.imhof.specs.Rule.{gk15Of, ruleSize}
+use Rattle.imhof.specs.Parts.{mostParts, finitePart, leftHalf, rightHalf, tolerance}
 use Rattle.records.specs.declared.course.Look.{Look}
 use Rattle.records.specs.declared.course.Course.{Course}
 use Rattle.records.specs.Records.{lookOf, startBy, startOf, halvedBy, lookedBy, openBy, turnedBy, turnedOf, splitOf, Work, workBy, workAfter}
@@ -41,17 +41,17 @@ module _ (f : Float → Float) (l : Look) where
   open-more true t h = absurd (never (sym h))
   open-more false t h = (refl, looked-more (le (l .error) tolerance) t h)
 
-  by-more : (more : Bool) (c : Course) (n : ℕ) → c .more ≡ more → turnedBy more f c l n .more ≡ true → (leb 2001 n ≡ false) × (turnedBy more f c l n .worst ≡ l .worst)
-  by-more true c n e h = open-more (leb 2001 n) (c .tally) h
+  by-more : (more : Bool) (c : Course) (n : ℕ) → c .more ≡ more → turnedBy more f c l n .more ≡ true → (leb mostParts n ≡ false) × (turnedBy more f c l n .worst ≡ l .worst)
+  by-more true c n e h = open-more (leb mostParts n) (c .tally) h
   by-more false c n e h = absurd (never (sym h ∙ e))
 
-  pub turned-more : (c : Course) (n : ℕ) → turnedOf f c l n .more ≡ true → (n < 2001) × (turnedOf f c l n .worst ≡ l .worst)
+  pub turned-more : (c : Course) (n : ℕ) → turnedOf f c l n .more ≡ true → (n < mostParts) × (turnedOf f c l n .worst ≡ l .worst)
   unfolding turnedOf
-  turned-more c n h = let e = by-more (c .more) c n refl h in (leb-false 2001 n (e .0), e .1)
+  turned-more c n h = let e = by-more (c .more) c n refl h in (leb-false mostParts n (e .0), e .1)
 
-  -- a turn is one bisection and 30 evaluations at most
+  -- a turn is one bisection and the points of two rules at most
   abbrev Within : Tally → Tally → Type 0
-  Within u t = (u .bisections ≤ t .bisections + 1) × (u .evaluations ≤ t .evaluations + 30)
+  Within u t = (u .bisections ≤ t .bisections + 1) × (u .evaluations ≤ t .evaluations + 2 * ruleSize)
 
   halved-tally : (fine : Bool) (t : Tally) → Within (halvedBy fine f l t .tally) t
   halved-tally true t = (omega arith, omega arith)
@@ -66,7 +66,7 @@ module _ (f : Float → Float) (l : Look) where
   open-tally false t = looked-tally (le (l .error) tolerance) t
 
   by-tally : (more : Bool) (c : Course) (n : ℕ) → Within (turnedBy more f c l n .tally) (c .tally)
-  by-tally true c n = open-tally (leb 2001 n) (c .tally)
+  by-tally true c n = open-tally (leb mostParts n) (c .tally)
   by-tally false c n = (omega arith, omega arith)
 
   turned-tally : (c : Course) (n : ℕ) → Within (turnedOf f c l n .tally) (c .tally)
@@ -120,14 +120,14 @@ module _ (f : Float → Float) (a b : Float) (ys : List Part) where
       (λ g. let same : after n ≡ after j = stay-shut j n (omega (arith, g)) e in ap after (sym (add-one n)) ∙ stays n (ap (λ (w : Work). w .course .more) same ∙ e) ∙ same)
       (eq-or-lt-of-le {n = j} {m = suc n} h)
 
-  module _ (k : ℕ) (fit : k + 1 ≤ 2001) (shut : decided k .more ≡ false) where
-    same-last : after 2001 ≡ after (k + 1)
-    same-last = stay-shut (k + 1) 2001 fit (ap (λ (c : Course). c .more) (sym (next-course k)) ∙ shut)
+  module _ (k : ℕ) (fit : k + 1 ≤ mostParts) (shut : decided k .more ≡ false) where
+    same-last : after mostParts ≡ after (k + 1)
+    same-last = stay-shut (k + 1) mostParts fit (ap (λ (c : Course). c .more) (sym (next-course k)) ∙ shut)
 
-    pub end-course : decided k ≡ after 2001 .course
+    pub end-course : decided k ≡ after mostParts .course
     end-course = next-course k ∙ ap (λ (w : Work). w .course) (sym same-last)
 
-    pub end-records : after k .records ≡ after 2001 .records
+    pub end-records : after k .records ≡ after mostParts .records
     end-records = last-records k shut ∙ ap (λ (w : Work). w .records) (sym same-last)
 
   -- ---- bounds
@@ -145,16 +145,16 @@ module _ (f : Float → Float) (a b : Float) (ys : List Part) where
       ap (λ (j : ℕ). length (after j .records)) (sym (add-one k)) ∙ ap (λ (w : Work). length (w .records)) (sym (work-next k))
       ∙ length-either (decided k .more) (after k .records) (k + 1) (decided k .worst) (decided k .left) (decided k .right) ∙ length-work k
 
-  start-tally : (fine : Bool) (p : Part) → (startBy fine p .tally .bisections ≤ 0) × (startBy fine p .tally .evaluations ≤ 15)
+  start-tally : (fine : Bool) (p : Part) → (startBy fine p .tally .bisections ≤ 0) × (startBy fine p .tally .evaluations ≤ ruleSize)
   start-tally true p = (omega arith, omega arith)
   start-tally false p = (omega arith, omega arith)
 
-  bounded : (k : ℕ) → (after k .course .tally .bisections ≤ k) × (after k .course .tally .evaluations ≤ 30 * k + 15)
-  bounded zero = subst (λ (c : Course). (c .tally .bisections ≤ 0) × (c .tally .evaluations ≤ 15)) none-course (start-tally (finitePart (gk15Of f a b)) (gk15Of f a b))
+  bounded : (k : ℕ) → (after k .course .tally .bisections ≤ k) × (after k .course .tally .evaluations ≤ 2 * ruleSize * k + ruleSize)
+  bounded zero = subst (λ (c : Course). (c .tally .bisections ≤ 0) × (c .tally .evaluations ≤ ruleSize)) none-course (start-tally (finitePart (gk15Of f a b)) (gk15Of f a b))
   bounded (suc k) =
       let g = bounded k in
       let h = turned-tally f (lookOf (after k .records) (k + 1)) (after k .course) (k + 1) in
-      subst (λ (c : Course). (c .tally .bisections ≤ suc k) × (c .tally .evaluations ≤ 30 * suc k + 15)) (next-course k ∙ ap (λ (j : ℕ). after j .course) (add-one k)) (omega (arith, g .0, h .0), omega (arith, g .1, h .1))
+      subst (λ (c : Course). (c .tally .bisections ≤ suc k) × (c .tally .evaluations ≤ 2 * ruleSize * suc k + ruleSize)) (next-course k ∙ ap (λ (j : ℕ). after j .course) (add-one k)) (omega (arith, g .0, h .0), omega (arith, g .1, h .1))
 
-  pub tally-fits : (k : ℕ) → k + 1 ≤ 2001 → (after k .course .tally .bisections + 1 < 2 ^ 64) × (after k .course .tally .evaluations + 30 < 2 ^ 64)
+  pub tally-fits : (k : ℕ) → k + 1 ≤ mostParts → (after k .course .tally .bisections + 1 < 2 ^ 64) × (after k .course .tally .evaluations + 2 * ruleSize < 2 ^ 64)
   tally-fits k fit = let g = bounded k in (omega (arith, g .0, fit), omega (arith, g .1, fit))

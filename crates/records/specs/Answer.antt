@@ -6,21 +6,15 @@ use lib.Dec.{ltb}
 use lib.ListN.{length, replicate, drop}
 use Rattle.imhof.specs.declared.Part.{Part}
 use Rattle.imhof.specs.declared.Quadrature.{Quadrature}
-use Rattle.imhof.specs.declared.Quadrature.the-variants.{Sum, Broken}
+use Rattle.imhof.specs.Parts.{mostParts}
 use Rattle.records.specs.declared.Answer.{Answer}
 use Rattle.records.specs.declared.Answer.the-variants.{RoomShort, Found}
 use Rattle.records.specs.Records.{zeroPart}
 
--- q is the answer where the list has n records, 2,001 at least
+-- q is the answer where the list has n records, one at least for every part that there can be
 abbrev pub answerOf : ℕ → Quadrature → Answer
-answerOf n q = cond (ltb n 2001) RoomShort (Found q)
+answerOf n q = cond (ltb n mostParts) RoomShort (Found q)
 
--- the list afterwards: untouched where it is too short, else its first 2,001 records are zeros
+-- the list afterwards: untouched where it is too short, else its first records, as many as there can be parts, are zeros
 abbrev pub clearedOf : List Part → List Part
-clearedOf ps = cond (ltb (length ps) 2001) ps (replicate 2001 zeroPart ++ drop 2001 ps)
-
--- the refusal's number and place; 0 and 0 where the answer is a sum
-abbrev pub refusalOf : Answer → ℕ × ℕ
-refusalOf RoomShort = (12, 2)
-refusalOf (Found (Sum i)) = (0, 0)
-refusalOf (Found Broken) = (13, 4)
+clearedOf ps = cond (ltb (length ps) mostParts) ps (replicate mostParts zeroPart ++ drop mostParts ps)

@@ -15,7 +15,7 @@ use Rattle.imhof.specs.declared.Part.{Part}
 use Rattle.imhof.specs.declared.Quadrature.{Quadrature}
 use Rattle.imhof.specs.declared.Quadrature.the-variants.{Sum, Broken}
 use Rattle.imhof.specs.Rule.{gk15Of}
-use Rattle.imhof.specs.Parts.{partAt, finitePart, leftHalf, rightHalf, tolerance, oneRule}
+use Rattle.imhof.specs.Parts.{mostParts, partAt, finitePart, leftHalf, rightHalf, tolerance, oneRule}
 use Rattle.records.specs.declared.course.Look.{Look}
 use Rattle.records.specs.declared.course.Course.{Course}
 
@@ -61,13 +61,13 @@ abbrev pub lookedBy : Bool → (Float → Float) → Look → Tally → Course
 lookedBy true f l t = courseOf false false l (l .greatest) (l .greatest) t
 lookedBy false f l t = halvedBy (finitePart (leftHalf f (l .greatest)) && finitePart (rightHalf f (l .greatest))) f l t
 
--- full: whether there are 2,001 records
+-- full: whether there are as many records as there can be parts
 abbrev pub openBy : Bool → (Float → Float) → Look → Tally → Course
 openBy true f l t = courseOf false false l (l .greatest) (l .greatest) t
 openBy false f l t = lookedBy (le (l .error) tolerance) f l t
 
 abbrev pub turnedBy : Bool → (Float → Float) → Course → Look → ℕ → Course
-turnedBy true f c l n = openBy (leb 2001 n) f l (c .tally)
+turnedBy true f c l n = openBy (leb mostParts n) f l (c .tally)
 turnedBy false f c l n = c
 
 -- one turn over n records

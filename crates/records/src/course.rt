@@ -2,19 +2,22 @@
 // shares the rule, the test of finiteness and the tolerance.
 ghost use mathlib.Core.Path.{_≡_};
 ghost use mathlib.Core.Bool.{false};
-ghost use Prim.Native.Nat.{_+_, _<_, _^_};
+ghost use Prim.Native.Nat.{_+_, _*_, _<_, _^_};
 ghost use Rattle.imhof.specs.Integrand.{integrandOf};
+ghost use Rattle.imhof.specs.Rule.{ruleSize};
 ghost use Rattle.records.specs.Records.{unseenOf, notedOf, courseOf, startOf, lookedBy, turnedOf, zeroPart, foundOf};
 ghost use Rattle.records.specs.declared.Answer.the-variants.{RoomShort, Found};
 use super::Answer;
 use floats::tally::Tally;
 use imhof::Integral;
+use imhof::MOST_PARTS;
 use imhof::Part;
 use imhof::Quadrature;
 use imhof::adaptive::TOLERANCE;
 use imhof::adaptive::are_finite;
 use imhof::adaptive::is_finite_part;
 use imhof::adaptive::with_bisection;
+use imhof::rule::RULE_SIZE;
 use imhof::rule::bisect;
 use imhof::rule::gk15;
 
@@ -102,7 +105,7 @@ pub fn start(weights: &[f64], lo: f64, hi: f64) -> Course
             unseen(whole),
             whole,
             whole,
-            Tally::new().evaluated(15),
+            Tally::new().evaluated(RULE_SIZE),
         );
     }
     formed(false, true, unseen(whole), whole, whole, Tally::new())
@@ -110,7 +113,7 @@ pub fn start(weights: &[f64], lo: f64, hi: f64) -> Course
 
 // The two halves of the record of greatest error that l found; closed where a half's value or error is not finite.
 fn halved(weights: &[f64], l: Look, tally: Tally) -> Course
-    requires { ⌜ (tally .bisections + 1 < 2 ^ 64) × (tally .evaluations + 30 < 2 ^ 64) ⌝ }
+    requires { ⌜ (tally .bisections + 1 < 2 ^ 64) × (tally .evaluations + 2 * ruleSize < 2 ^ 64) ⌝ }
     ensures { λ r. ⌜ r ≡ lookedBy false (integrandOf (now (weights .entry))) l tally ⌝ }
 {
     let g = l.greatest;
@@ -122,16 +125,16 @@ fn halved(weights: &[f64], l: Look, tally: Tally) -> Course
 }
 
 // One turn over n records, of which l was found: closed where there is no room for another bisection, or the summed error is at most
-// 5e-12, or a half's value or error is not finite; else open, with the two halves of the record of greatest error.
+// the tolerance, or a half's value or error is not finite; else open, with the two halves of the record of greatest error.
 pub fn turned(weights: &[f64], c: Course, l: Look, n: usize) -> Course
-    requires { ⌜ (c .tally .bisections + 1 < 2 ^ 64) × (c .tally .evaluations + 30 < 2 ^ 64) ⌝ }
+    requires { ⌜ (c .tally .bisections + 1 < 2 ^ 64) × (c .tally .evaluations + 2 * ruleSize < 2 ^ 64) ⌝ }
     ensures { λ r. ⌜ r ≡ turnedOf (integrandOf (now (weights .entry))) c l n ⌝ }
 {
     if !c.more {
         return c;
     }
     let tally = c.tally;
-    if n >= 2001 || l.error <= TOLERANCE {
+    if n >= MOST_PARTS || l.error <= TOLERANCE {
         let g = l.greatest;
         return formed(false, false, l, g, g, tally);
     }

@@ -6,7 +6,7 @@ ghost use Prim.Native.Nat.{_<_, _≤_};
 ghost use lib.ListN.{length, replicate, drop};
 ghost use Rattle.imhof.specs.Integrand.{integrandOf};
 ghost use Rattle.imhof.specs.Imhof.{quadratureOf};
-ghost use Rattle.imhof.specs.Parts.{stageAfter};
+ghost use Rattle.imhof.specs.Parts.{mostBisections, mostParts, stageAfter};
 ghost use Rattle.records.specs.Records.{zeroPart, lookOf, splitOf, workAfter};
 ghost use Rattle.records.specs.Answer.{answerOf, clearedOf};
 ghost use Rattle.records.specs.declared.Answer.the-variants.{Found};
@@ -19,15 +19,16 @@ use course::start;
 use course::turned;
 use course::unseen;
 use course::zero;
+use imhof::MOST_PARTS;
 use imhof::Part;
 use imhof::Quadrature;
 
 mod course;
 
 pub enum Answer {
-    // The list is shorter than 2,001 records: refusal 12, place 2.
+    // The list is shorter than MOST_PARTS records: nothing was worked out.
     RoomShort,
-    // The four-run form's answer: the sums and the work, or refusal 13, stage 4.
+    // The four-run form's answer: the sums and the work, or that a number was not finite.
     Found(Quadrature),
 }
 
@@ -55,14 +56,14 @@ fn split(parts: &mut [Part], n: usize, w: usize, left: Part, right: Part)
     parts[n] = right;
 }
 
-// The first 2,001 records set to zeros.
+// The first MOST_PARTS records set to zeros.
 fn clear(parts: &mut [Part])
-    requires { ⌜ 2001 ≤ length (now parts) ⌝ }
-    ensures { λ _. ⌜ now (parts .exit) ≡ replicate 2001 zeroPart ++ drop 2001 (now (parts .entry)) ⌝ }
+    requires { ⌜ mostParts ≤ length (now parts) ⌝ }
+    ensures { λ _. ⌜ now (parts .exit) ≡ replicate mostParts zeroPart ++ drop mostParts (now (parts .entry)) ⌝ }
 {
     let z = zero();
     let mut i = 0;
-    while i < 2001 {
+    while i < MOST_PARTS {
         parts[i] = z;
         i += 1;
     }
@@ -70,8 +71,8 @@ fn clear(parts: &mut [Part])
 
 // The whole range as record 0, then turn after turn, until the course is closed.
 fn refine(weights: &[f64], lo: f64, hi: f64, parts: &mut [Part]) -> Course
-    requires { ⌜ 2001 ≤ length (now parts) ⌝ }
-    ensures { λ r. ⌜ (r ≡ workAfter 2001 (integrandOf (now (weights .entry))) lo hi (now (parts .entry)) .course) × (now (parts .exit) ≡ workAfter 2001 (integrandOf (now (weights .entry))) lo hi (now (parts .entry)) .records) ⌝ }
+    requires { ⌜ mostParts ≤ length (now parts) ⌝ }
+    ensures { λ r. ⌜ (r ≡ workAfter mostParts (integrandOf (now (weights .entry))) lo hi (now (parts .entry)) .course) × (now (parts .exit) ≡ workAfter mostParts (integrandOf (now (weights .entry))) lo hi (now (parts .entry)) .records) ⌝ }
 {
     let mut c = start(weights, lo, hi);
     parts[0] = c.left;
@@ -87,11 +88,11 @@ fn refine(weights: &[f64], lo: f64, hi: f64, parts: &mut [Part]) -> Course
     c
 }
 
-// The integral from lo to hi over a lent list of records. Past the room check its first 2,001 records end as zeros, and the others stay.
+// The integral from lo to hi over a lent list of records. Past the room check its first MOST_PARTS records end as zeros, and the others stay.
 pub fn quadrature(weights: &[f64], lo: f64, hi: f64, parts: &mut [Part]) -> Answer
-    ensures { λ r. ⌜ (r ≡ answerOf (length (now (parts .entry))) (quadratureOf (stageAfter 2000 (integrandOf (now (weights .entry))) lo hi))) × (now (parts .exit) ≡ clearedOf (now (parts .entry))) ⌝ }
+    ensures { λ r. ⌜ (r ≡ answerOf (length (now (parts .entry))) (quadratureOf (stageAfter mostBisections (integrandOf (now (weights .entry))) lo hi))) × (now (parts .exit) ≡ clearedOf (now (parts .entry))) ⌝ }
 {
-    if parts.len() < 2001 {
+    if parts.len() < MOST_PARTS {
         return room_short();
     }
     let c = refine(weights, lo, hi, parts);
@@ -101,9 +102,9 @@ pub fn quadrature(weights: &[f64], lo: f64, hi: f64, parts: &mut [Part]) -> Answ
 
 // The same over a list of its own: whoever calls this one lends no records.
 pub fn integrate(weights: &[f64], lo: f64, hi: f64) -> Answer
-    ensures { λ r. ⌜ r ≡ Found (quadratureOf (stageAfter 2000 (integrandOf (now (weights .entry))) lo hi)) ⌝ }
+    ensures { λ r. ⌜ r ≡ Found (quadratureOf (stageAfter mostBisections (integrandOf (now (weights .entry))) lo hi)) ⌝ }
 {
     let z = zero();
-    let mut parts = [z; 2001];
+    let mut parts = [z; MOST_PARTS];
     quadrature(weights, lo, hi, &mut parts)
 }

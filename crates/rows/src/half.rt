@@ -9,11 +9,12 @@ ghost use Rattle.floats.specs.Words.{_⊗_, _‼_};
 ghost use Rattle.floats.specs.Sums.{sumOf};
 ghost use Rattle.floats.specs.Tables.{table, triangle};
 ghost use Rattle.floats.specs.Matrix.{halfEntry};
+ghost use Rattle.floats.specs.Limits.{maxRows};
 ghost use Rattle.rows.specs.Terms.{sumFrom, rowStart, ReachRows, ReachCorner};
 
 // Where entry (i, j) stands, for j up to i. Row n of n rows would begin where they end.
 pub fn place(i: usize, j: usize) -> usize
-    requires { ⌜ (i ≤ 256) × (j ≤ 256) ⌝ }
+    requires { ⌜ (i ≤ maxRows) × (j ≤ maxRows) ⌝ }
     ensures { λ r. ⌜ r ≡ triangle i + j ⌝ }
 {
     i * (i + 1) / 2 + j
@@ -21,7 +22,7 @@ pub fn place(i: usize, j: usize) -> usize
 
 // Of k numbers of row i, from column `from` on, how many stand up to the diagonal.
 fn own_numbers(i: usize, from: usize, k: usize) -> usize
-    requires { ⌜ (i < 256) × (from + k ≤ 256) ⌝ }
+    requires { ⌜ (i < maxRows) × (from + k ≤ maxRows) ⌝ }
     ensures { λ r. ⌜ r ≡ min k (i + 1 - from) ⌝ }
 {
     if i + 1 <= from {
@@ -35,7 +36,7 @@ fn own_numbers(i: usize, from: usize, k: usize) -> usize
 
 // Down column i, from row `from` on, which stands below row i.
 fn copy_column(row: &mut [f64], a: &[f64], i: usize, from: usize)
-    requires { ⌜ (i < 256) × (from + length (now row) ≤ 256) × (0 < length (now row) → i < from) × (triangle (from + length (now row)) ≤ length (now a)) ⌝ }
+    requires { ⌜ (i < maxRows) × (from + length (now row) ≤ maxRows) × (0 < length (now row) → i < from) × (triangle (from + length (now row)) ≤ length (now a)) ⌝ }
     ensures { λ _. ⌜ now (row .exit) ≡ table (λ s. halfEntry (now (a .entry)) i (from + s)) (length (now (row .entry))) ⌝ }
 {
     let mut at = place(from, i);
@@ -47,7 +48,7 @@ fn copy_column(row: &mut [f64], a: &[f64], i: usize, from: usize)
 
 // A stretch of row i of the whole matrix, from column `from` on: its own numbers up to the diagonal, then those of column i.
 pub fn copy_row(row: &mut [f64], a: &[f64], i: usize, from: usize)
-    requires { ⌜ (i < 256) × (from + length (now row) ≤ 256) × (triangle (i + 1) ≤ length (now a)) × (triangle (from + length (now row)) ≤ length (now a)) ⌝ }
+    requires { ⌜ (i < maxRows) × (from + length (now row) ≤ maxRows) × (triangle (i + 1) ≤ length (now a)) × (triangle (from + length (now row)) ≤ length (now a)) ⌝ }
     ensures { λ _. ⌜ now (row .exit) ≡ table (λ s. halfEntry (now (a .entry)) i (from + s)) (length (now (row .entry))) ⌝ }
 {
     let own = own_numbers(i, from, row.len());
@@ -59,7 +60,7 @@ pub fn copy_row(row: &mut [f64], a: &[f64], i: usize, from: usize)
 
 // x plus four terms: number `at` of `xs` times number s of `w`, and so on, a row on in the one and 1 in the other. They are read in an order as that of `four_terms`.
 fn four_steps(x: f64, xs: &[f64], at: usize, stride: usize, w: &[f64], s: usize) -> f64
-    requires { ⌜ (stride ≤ 512) × (at + (3 * stride + 3) < length (now xs)) × (s + 4 ≤ length (now w)) ⌝ }
+    requires { ⌜ (stride ≤ 2 * maxRows) × (at + (3 * stride + 3) < length (now xs)) × (s + 4 ≤ length (now w)) ⌝ }
     ensures { λ r. ⌜ r ≡ sumFrom x 4 (λ t. now (xs .entry) ‼ (at + rowStart stride t) ⊗ now (w .entry) ‼ (s + t)) ⌝ }
 {
     let a = xs[at];
@@ -71,7 +72,7 @@ fn four_steps(x: f64, xs: &[f64], at: usize, stride: usize, w: &[f64], s: usize)
 
 // Adds the multiples of eight rows, one after another. Each number of `row` is read and written once for the eight.
 fn add_eight(row: &mut [f64], xs: &[f64], stride: usize, w: &[f64])
-    requires { ⌜ (stride ≤ 256) × (ReachRows 8 stride (length (now row)) (length (now xs))) × (8 ≤ length (now w)) ⌝ }
+    requires { ⌜ (stride ≤ maxRows) × (ReachRows 8 stride (length (now row)) (length (now xs))) × (8 ≤ length (now w)) ⌝ }
     ensures { λ _. ⌜ now (row .exit) ≡ table (λ j. sumFrom (now (row .entry) ‼ j) 8 (λ s. now (xs .entry) ‼ (rowStart stride s + j) ⊗ now (w .entry) ‼ s)) (length (now (row .entry))) ⌝ }
 {
     let fifth = 4 * stride + 6;
@@ -83,7 +84,7 @@ fn add_eight(row: &mut [f64], xs: &[f64], stride: usize, w: &[f64])
 
 // To number j of `row`: number j of rows of a half, up to eight, the first `stride` numbers long, each times its number of `w`, first to last.
 pub fn add_rows(row: &mut [f64], xs: &[f64], stride: usize, w: &[f64])
-    requires { ⌜ (stride ≤ 256) × (length (now w) ≤ 8) × (ReachRows (length (now w)) stride (length (now row)) (length (now xs))) ⌝ }
+    requires { ⌜ (stride ≤ maxRows) × (length (now w) ≤ 8) × (ReachRows (length (now w)) stride (length (now row)) (length (now xs))) ⌝ }
     ensures { λ _. ⌜ now (row .exit) ≡ table (λ j. sumFrom (now (row .entry) ‼ j) (length (now (w .entry))) (λ s. now (xs .entry) ‼ (rowStart stride s + j) ⊗ now (w .entry) ‼ s)) (length (now (row .entry))) ⌝ }
 {
     if w.len() == 8 {
@@ -100,7 +101,7 @@ pub fn add_rows(row: &mut [f64], xs: &[f64], stride: usize, w: &[f64])
 
 // The sums of the products of eight rows with `v`. They are read in an order as that of `four_terms`.
 fn eight_dots(p: &mut [f64], xs: &[f64], stride: usize, v: &[f64])
-    requires { ⌜ (stride ≤ 256) × (length (now p) ≡ 8) × (ReachRows 8 stride (length (now v)) (length (now xs))) ⌝ }
+    requires { ⌜ (stride ≤ maxRows) × (length (now p) ≡ 8) × (ReachRows 8 stride (length (now v)) (length (now xs))) ⌝ }
     ensures { λ _. ⌜ now (p .exit) ≡ table (λ s. sumOf (length (now (v .entry))) (λ j. now (xs .entry) ‼ (rowStart stride s + j) ⊗ now (v .entry) ‼ j)) 8 ⌝ }
 {
     let mut a = -0.0f64;
@@ -134,7 +135,7 @@ fn eight_dots(p: &mut [f64], xs: &[f64], stride: usize, v: &[f64])
 
 // The sums of the products of rows of a half, up to eight, the first `stride` numbers long, with `v`: one for each number of `p`.
 pub fn row_dots(p: &mut [f64], xs: &[f64], stride: usize, v: &[f64])
-    requires { ⌜ (stride ≤ 256) × (length (now p) ≤ 8) × (ReachRows (length (now p)) stride (length (now v)) (length (now xs))) ⌝ }
+    requires { ⌜ (stride ≤ maxRows) × (length (now p) ≤ 8) × (ReachRows (length (now p)) stride (length (now v)) (length (now xs))) ⌝ }
     ensures { λ _. ⌜ now (p .exit) ≡ table (λ s. sumOf (length (now (v .entry))) (λ j. now (xs .entry) ‼ (rowStart stride s + j) ⊗ now (v .entry) ‼ j)) (length (now (p .entry))) ⌝ }
 {
     if p.len() == 8 {
@@ -151,7 +152,7 @@ pub fn row_dots(p: &mut [f64], xs: &[f64], stride: usize, v: &[f64])
 // The corner where rows of a half, up to eight, meet their own columns: `xs` begins on the diagonal, in a row of `stride` numbers. To number s of `p`: the terms of row s of that
 // square, each times its number of `v`, first to last. A row has its own terms up to the diagonal, and gives its term to each number before it.
 pub fn add_corner(p: &mut [f64], xs: &[f64], stride: usize, v: &[f64])
-    requires { ⌜ (stride ≤ 256) × (length (now p) ≤ 8) × (length (now v) ≡ length (now p)) × (ReachCorner (length (now p)) stride (length (now xs))) ⌝ }
+    requires { ⌜ (stride ≤ maxRows) × (length (now p) ≤ 8) × (length (now v) ≡ length (now p)) × (ReachCorner (length (now p)) stride (length (now xs))) ⌝ }
     ensures { λ _. ⌜ now (p .exit) ≡ table (λ s. sumFrom (now (p .entry) ‼ s) (length (now (p .entry))) (λ u. now (xs .entry) ‼ (rowStart stride (max s u) + min s u) ⊗ now (v .entry) ‼ u)) (length (now (p .entry))) ⌝ }
 {
     let mut start = 0usize;

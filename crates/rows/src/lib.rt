@@ -8,7 +8,9 @@ ghost use Prim.Native.Nat.{_+_, _*_, _≤_, _<_};
 ghost use lib.ListN.{length};
 ghost use Rattle.floats.specs.Words.{_⊕_, _⊗_, _‼_};
 ghost use Rattle.floats.specs.Tables.{table};
+ghost use Rattle.floats.specs.Limits.{maxRows};
 ghost use Rattle.rows.specs.Terms.{Reach, sumFrom};
+use floats::limits::MAX_ROWS;
 
 pub mod half;
 
@@ -78,27 +80,27 @@ fn add_next_eight(row: &mut [f64], xs: &[f64], stride: usize, w: &[f64], t: usiz
     add_eight(row, &xs[start..end], stride, &w[t..next]);
 }
 
-// Adds sixteen multiples, one after another, of runs that stand 256 apart. With the stride a constant the compiler has
-// no address to work out.
+// Adds sixteen multiples, one after another, of runs that stand as far apart as the longest row is long. With the
+// stride a constant the compiler has no address to work out.
 fn add_sixteen(row: &mut [f64], xs: &[f64], w: &[f64])
-    requires { ⌜ (3840 + length (now row) ≤ length (now xs)) × (16 ≤ length (now w)) ⌝ }
-    ensures { λ _. ⌜ now (row .exit) ≡ table (λ j. sumFrom (now (row .entry) ‼ j) 16 (λ s. now (xs .entry) ‼ (s * 256 + j) ⊗ now (w .entry) ‼ s)) (length (now (row .entry))) ⌝ }
+    requires { ⌜ (15 * maxRows + length (now row) ≤ length (now xs)) × (16 ≤ length (now w)) ⌝ }
+    ensures { λ _. ⌜ now (row .exit) ≡ table (λ j. sumFrom (now (row .entry) ‼ j) 16 (λ s. now (xs .entry) ‼ (s * maxRows + j) ⊗ now (w .entry) ‼ s)) (length (now (row .entry))) ⌝ }
 {
     for j in 0..row.len() {
-        let a = four_terms(row[j], xs, j, 256, w, 0);
-        let b = four_terms(a, xs, 1024 + j, 256, w, 4);
-        let c = four_terms(b, xs, 2048 + j, 256, w, 8);
-        row[j] = four_terms(c, xs, 3072 + j, 256, w, 12);
+        let a = four_terms(row[j], xs, j, MAX_ROWS, w, 0);
+        let b = four_terms(a, xs, 4 * MAX_ROWS + j, MAX_ROWS, w, 4);
+        let c = four_terms(b, xs, 8 * MAX_ROWS + j, MAX_ROWS, w, 8);
+        row[j] = four_terms(c, xs, 12 * MAX_ROWS + j, MAX_ROWS, w, 12);
     }
 }
 
 // Adds the multiples of sixteen runs in `xs`, from run t on.
 fn add_next_sixteen(row: &mut [f64], xs: &[f64], w: &[f64], t: usize)
-    requires { ⌜ (Reach (length (now w)) 256 (length (now row)) (length (now xs))) × (t + 16 ≤ length (now w)) ⌝ }
-    ensures { λ _. ⌜ now (row .exit) ≡ table (λ j. sumFrom (now (row .entry) ‼ j) 16 (λ s. now (xs .entry) ‼ ((t + s) * 256 + j) ⊗ now (w .entry) ‼ (t + s))) (length (now (row .entry))) ⌝ }
+    requires { ⌜ (Reach (length (now w)) maxRows (length (now row)) (length (now xs))) × (t + 16 ≤ length (now w)) ⌝ }
+    ensures { λ _. ⌜ now (row .exit) ≡ table (λ j. sumFrom (now (row .entry) ‼ j) 16 (λ s. now (xs .entry) ‼ ((t + s) * maxRows + j) ⊗ now (w .entry) ‼ (t + s))) (length (now (row .entry))) ⌝ }
 {
-    let start = t * 256;
-    let end = start + (3840 + row.len());
+    let start = t * MAX_ROWS;
+    let end = start + (15 * MAX_ROWS + row.len());
     let next = t + 16;
     add_sixteen(row, &xs[start..end], &w[t..next]);
 }
@@ -112,7 +114,7 @@ pub fn add_terms(row: &mut [f64], xs: &[f64], stride: usize, w: &[f64])
     let k = w.len();
     let mut t = 0usize;
     while t < k {
-        if stride == 256 && t + 16 <= k {
+        if stride == MAX_ROWS && t + 16 <= k {
             add_next_sixteen(row, xs, w, t);
             t = t + 16;
         } else if t + 8 <= k {

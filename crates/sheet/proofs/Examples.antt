@@ -1,4 +1,4 @@
--- Document 01's whole case, worked out by the definitions themselves: its 164 bytes, what they are read into, damaged copies, and its lines; and a file with positions. Assumes nothing.
+-- Document 01's whole case, worked out by the definitions themselves: its 164 bytes, what they are read into, damaged copies; and a file with positions. Assumes nothing.
 use Prim.Native.Nat.{ℕ, zero, suc, _/_, _%_}
 use mathlib.Core.Path.{_≡_, refl}
 use mathlib.Core.List.{List, [], _∷_, _++_, map}
@@ -9,10 +9,8 @@ use Rattle.floats.specs.Tables.{table}
 use Rattle.floats.specs.Search.{firstWhere}
 use Rattle.sheet.specs.Contents.{entryOf, residualsOf, columnsOf}
 use Rattle.sheet.specs.Reading.{sheets, refused, dueAt, notRising, meets, refusalsFrom, firstMet, readFile}
-use Rattle.sheet.specs.Lines.{text, digits, widthTo, joined, lineOf, fileLineOf}
 use Rattle.sheet.specs.declared.file.Entry.{Entry}
 use Rattle.sheet.specs.declared.file.FileRefusal.the-variants.{Size, Count, ContentsCut, Codes, Offset, PastEnd, NotRising, LeftOver}
-use Rattle.sheet.specs.declared.lines.Fields.{Fields}
 
 -- k bytes of n, the least first
 abbrev bytes : ℕ → ℕ → List ℕ
@@ -128,28 +126,3 @@ positions-read = refl
 pub positioned-numbers : residualsOf (positioned 5 6) placed ≡ map float (0x3ff0000000000000 ∷ 0xbff0000000000000 ∷ [])
 unfolding littleEndian table
 positioned-numbers = refl
-
--- the whole case's three lines
-abbrev fields : ℕ → ℕ → ℕ → ℕ → ℕ → ℕ → Fields
-fields i refusal d p path settled = record { index = i; refusal = refusal; place = 0; «statistic_bits» = d; «p_bits» = p; path = path; fallback = 0; kept = 0; sweeps = 0; bisections = 0; evaluations = 0; settled = settled }
-
-pub whole-lines : map lineOf (fields 0 0 0x4000000000000000 0x3ff0000000000000 1 1 ∷ fields 1 0 0x4008000000000000 0x3ff0000000000000 4 1 ∷ fields 2 6 0 0 0 0 ∷ [])
-    ≡ map text (
-    "0 0 0 4000000000000000 3ff0000000000000 1 0 0 0 0 0 1\n"
-    ∷ "1 0 0 4008000000000000 3ff0000000000000 4 0 0 0 0 0 1\n"
-    ∷ "2 6 0 0000000000000000 0000000000000000 0 0 0 0 0 0 0\n"
-    ∷ [])
-unfolding lineOf joined digits widthTo text
-whole-lines = refl
-
-pub refusal-lines : map fileLineOf (Size ∷ Codes 63 ∷ NotRising 63 ∷ LeftOver ∷ []) ≡ map text ("file 1 0\n" ∷ "file 4 63\n" ∷ "file 8 63\n" ∷ "file 7 0\n" ∷ [])
-unfolding fileLineOf joined digits widthTo text
-refusal-lines = refl
-
--- the longest line
-abbrev largest : ℕ
-largest = 0xffffffffffffffff
-
-pub longest-line : length (lineOf (record { index = largest; refusal = largest; place = largest; «statistic_bits» = largest; «p_bits» = largest; path = largest; fallback = largest; kept = largest; sweeps = largest; bisections = largest; evaluations = largest; settled = largest })) ≡ 244
-unfolding lineOf joined digits widthTo
-longest-line = refl

@@ -3,7 +3,6 @@ pub mod PastEnd
 pub mod RisingLaws
 pub mod Fronts
 pub mod Order
-pub mod DigitLaws
 pub mod Theorems
 pub mod Positions
 pub mod Examples

@@ -7,12 +7,10 @@ use lib.Ieee.{Float}
 use denote.Ref.{RefT}
 use Rattle.sheet.specs.Contents.{entryOf, positionOf, residualsOf, columnsOf}
 use Rattle.sheet.specs.Reading.{readFile, checkOf, numberOf, indexOf, nextOf}
-use Rattle.sheet.specs.Lines.{lineOf, fileLineOf, fronted, frontLength}
 use Rattle.sheet.specs.declared.file.Entry.{Entry}
 use Rattle.sheet.specs.declared.file.FileRefusal.{FileRefusal}
 use Rattle.sheet.specs.declared.file.FileCheck.{FileCheck}
 use Rattle.sheet.specs.declared.file.Next.{Next}
-use Rattle.sheet.specs.declared.lines.Fields.{Fields}
 use Rattle.sheet.specs.declared.reader.Reader.{Reader}
 
 same : {A : Type 0} {x r s : A} → r ≡ x → s ≡ x → r ≡ s
@@ -51,12 +49,3 @@ one-index f r s p q = same p q
 -- `Reader::new` and `moved`: a reader is its file and its next entry
 pub one-reader : (file : RefT (List ℕ)) (next : ℕ) (r s : Reader) → (r .file ≡ file) × (r .next ≡ next) → (s .file ≡ file) × (s .next ≡ next) → r ≡ s
 one-reader file next r s p q = ap (λ x. record { file = x; next = r .next }) (same (p .0) (q .0)) ∙ ap (λ k. record { file = s .file; next = k }) (same (p .1) (q .1))
-
--- the length and the buffer of `write_line` and `write_file_refusal`
-pub one-line : (f : Fields) (out : List ℕ) (n m : ℕ) (r s : List ℕ)
-    → (n ≡ frontLength (lineOf f) out) × (r ≡ fronted (lineOf f) out) → (m ≡ frontLength (lineOf f) out) × (s ≡ fronted (lineOf f) out) → (n ≡ m) × (r ≡ s)
-one-line f out n m r s p q = (same (p .0) (q .0), same (p .1) (q .1))
-
-pub one-file-line : (f : FileRefusal) (out : List ℕ) (n m : ℕ) (r s : List ℕ)
-    → (n ≡ frontLength (fileLineOf f) out) × (r ≡ fronted (fileLineOf f) out) → (m ≡ frontLength (fileLineOf f) out) × (s ≡ fronted (fileLineOf f) out) → (n ≡ m) × (r ≡ s)
-one-file-line f out n m r s p q = (same (p .0) (q .0), same (p .1) (q .1))

@@ -17,7 +17,7 @@ use lib.Ieee.{Float, nan}
 use Rattle.floats.specs.Words.{_‼_}
 use Rattle.floats.specs.Tables.{table}
 use Rattle.floats.proofs.TableLaws.{length-table, getD-table}
-use Rattle.sheet.specs.Contents.{countOf, entryPlace, entryOf, bodyStart, numbersStart, bodyEnd, positionOf, bodyNumber, residualsOf, columnsOf}
+use Rattle.sheet.specs.Contents.{mostNumbers, countOf, entryPlace, entryOf, bodyStart, numbersStart, bodyEnd, positionOf, bodyNumber, residualsOf, columnsOf}
 use Rattle.sheet.specs.Rising.{rises, Rising}
 use Rattle.sheet.specs.Reading.{Reading, sheets, refused, dueAt, notRising, meets, refusalsFrom, refusals, firstMet, readFile, checkOf, nextOf}
 use Rattle.sheet.specs.Tiling.{Known, Tiled, NoneMet, MetFirst}
@@ -221,16 +221,16 @@ reads-entry file n t i l =
 pub reads-end : (file : List ℕ) (n : ℕ) → Tiled file n → (i : ℕ) → n ≤ i → nextOf file i ≡ End
 reads-end file n t i l = let c = t .count in rw (← c, le-ltb _ _ l)
 
--- runs of 8,192 numbers hold the residuals and the columns of any entry
-pub body-fits : (file : List ℕ) (n : ℕ) → Tiled file n → (i : ℕ) → i < n → (entryOf file i .rows ≤ 8192) × (entryOf file i .rows * entryOf file i .columns ≤ 8192)
+-- runs of so many numbers hold the residuals and the columns of any entry
+pub body-fits : (file : List ℕ) (n : ℕ) → Tiled file n → (i : ℕ) → i < n → (entryOf file i .rows ≤ mostNumbers) × (entryOf file i .rows * entryOf file i .columns ≤ mostNumbers)
 body-fits file n t i l = go (numbersStart (entryOf file i)) (entryOf file i .rows) (entryOf file i .columns) (t .within i l)
   where
-    go : (a r k : ℕ) → a + 8 * (r * (k + 1)) ≤ length file → (r ≤ 8192) × (r * k ≤ 8192)
+    go : (a r k : ℕ) → a + 8 * (r * (k + 1)) ≤ length file → (r ≤ mostNumbers) × (r * k ≤ mostNumbers)
     go a r k h = let m : r * (k + 1) ≡ r * k + r = rw add-one (mul-suc r k) in let b = t .most in (omega arith, omega arith)
 
 -- what a caller of `read_entry` learns of the entry that it is given: which it is, that its body lies within the file, and that the runs hold it
 pub entry-read : (file : List ℕ) (n : ℕ) → Tiled file n → (i : ℕ) → i < n → {r : Next} {e : Entry} → r ≡ nextOf file i → r ≡ Sheet e
-    → (e ≡ entryOf file i) × (bodyEnd e ≤ length file) × (e .rows ≤ 8192) × (e .rows * e .columns ≤ 8192)
+    → (e ≡ entryOf file i) × (bodyEnd e ≤ length file) × (e .rows ≤ mostNumbers) × (e .rows * e .columns ≤ mostNumbers)
 entry-read file n t i l {r} {e} p q =
     let k : e ≡ entryOf file i = same-sheet (sym q ∙ p ∙ reads-entry file n t i l) in
     let b = body-fits file n t i l in

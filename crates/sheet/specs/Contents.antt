@@ -1,6 +1,6 @@
 -- What stands where in a sheet file (document 01, "The sheet program", and document 02, W-202): contents, a count and 16 bytes an entry, then the bodies.
 -- A file is the list of its bytes, each below 256; a number of k bytes is `littleEndian k file` at its place, the least byte first. Definitions only. Assumes nothing.
-use Prim.Native.Nat.{ℕ, _+_, _*_, _≤_}
+use Prim.Native.Nat.{ℕ, _+_, _*_, _/_, _≤_}
 use mathlib.Core.Path.{_≡_}
 use mathlib.Core.List.{List}
 use lib.ListN.{length, getD, take}
@@ -8,6 +8,16 @@ use lib.Ieee.{Float}
 use Rattle.floats.specs.Bits.{littleEndian, floatAt}
 use Rattle.floats.specs.Tables.{table}
 use Rattle.sheet.specs.declared.file.Entry.{Entry}
+
+-- the largest file, in bytes; the most entries; and numbers of 8 bytes: no body has more
+abbrev pub largestFile : ℕ
+largestFile = 65536
+
+abbrev pub mostEntries : ℕ
+mostEntries = 64
+
+abbrev pub mostNumbers : ℕ
+mostNumbers = largestFile / 8
 
 -- how many entries the file says it has
 abbrev pub countOf : List ℕ → ℕ

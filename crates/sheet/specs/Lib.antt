@@ -1,6 +1,5 @@
 pub mod Contents
 pub mod Rising
 pub mod Reading
-pub mod Lines
 pub mod Tiling
 pub mod Positions

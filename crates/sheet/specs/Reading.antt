@@ -6,7 +6,7 @@ use mathlib.Core.List.{List, [], _∷_}
 use lib.Dec.{eqb, ltb, leb}
 use lib.ListN.{length}
 use Rattle.floats.specs.Tables.{table}
-use Rattle.sheet.specs.Contents.{countOf, entryPlace, entryOf, spareOf, bodyStart, bodyEnd, positionOf}
+use Rattle.sheet.specs.Contents.{largestFile, mostEntries, countOf, entryPlace, entryOf, spareOf, bodyStart, bodyEnd, positionOf}
 use Rattle.sheet.specs.Rising.{rises}
 use Rattle.sheet.specs.declared.file.Entry.{Entry}
 use Rattle.sheet.specs.declared.file.FileRefusal.{FileRefusal}
@@ -50,8 +50,8 @@ notRising file e = eqb (e .positions) 1 && not (rises (positionOf file e) (e .ro
 
 -- the condition of each refusal
 unfoldable pub meets : List ℕ → FileRefusal → Bool
-meets file Size = ltb (length file) 4 || ltb 65536 (length file)
-meets file Count = ltb (countOf file) 1 || ltb 64 (countOf file)
+meets file Size = ltb (length file) 4 || ltb largestFile (length file)
+meets file Count = ltb (countOf file) 1 || ltb mostEntries (countOf file)
 meets file ContentsCut = ltb (length file) (entryPlace (countOf file))
 meets file (Codes i) = ltb 2 (entryOf file i .alternative) || (ltb 2 (entryOf file i .choice) || (ltb 1 (entryOf file i .positions) || not (eqb (spareOf file i) 0)))
 meets file (Offset i) = not (eqb (bodyStart (entryOf file i)) (dueAt file i))

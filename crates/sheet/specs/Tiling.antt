@@ -5,7 +5,7 @@ use mathlib.Core.Path.{_≡_}
 use mathlib.Core.Bool.{true, false}
 use mathlib.Core.List.{List, [], _∷_, _++_}
 use lib.ListN.{length}
-use Rattle.sheet.specs.Contents.{countOf, entryPlace, entryOf, spareOf, bodyStart, bodyEnd, positionOf}
+use Rattle.sheet.specs.Contents.{largestFile, mostEntries, countOf, entryPlace, entryOf, spareOf, bodyStart, bodyEnd, positionOf}
 use Rattle.sheet.specs.Rising.{Rising}
 use Rattle.sheet.specs.Reading.{meets}
 use Rattle.sheet.specs.declared.file.FileRefusal.{FileRefusal}
@@ -17,10 +17,10 @@ Known file i = (entryOf file i .alternative ≤ 2) × (entryOf file i .choice �
 -- a file of n entries, whose contents and bodies tile it: the first body begins where the contents end, each other where the one before it ends, and the last ends with the file; and the positions of each entry that has them rise
 pub record Tiled (file : List ℕ) (n : ℕ) : Type 0 where
   pub least : 4 ≤ length file
-  pub most : length file ≤ 65536
+  pub most : length file ≤ largestFile
   pub count : n ≡ countOf file
   pub some : 1 ≤ n
-  pub few : n ≤ 64
+  pub few : n ≤ mostEntries
   pub contents : entryPlace n ≤ length file
   pub known : (i : ℕ) → i < n → Known file i
   pub first : bodyStart (entryOf file 0) ≡ entryPlace n

@@ -9,6 +9,18 @@ ghost use Rattle.sheet.specs.Contents.{countOf, entryPlace, entryOf, bod
 ghost use Rattle.sheet.specs.declared.file.FileRefusal.the-variants.{Codes};
 ghost use Rattle.sheet.specs.Reading.{dueAt, notRising, meets, entryFault, refusalsFrom, firstMet, readFile, checkOf, numberOf, indexOf, nextOf};
 
+// The largest file, and as many numbers as its bytes could hold.
+pub const LARGEST: usize = 65_536;
+
+pub const MOST_NUMBERS: usize = LARGEST / 8;
+
+const MOST_ENTRIES: usize = 64;
+
+// The contents: a count, and the entries.
+const COUNT_BYTES: usize = 4;
+
+const ENTRY_BYTES: usize = 16;
+
 // Where one sheet's body begins, its size, its two codes (alternative 0 greater, 1 less, 2 two-sided; choice 0 default, 1 exact,
 // 2 normal) and its positions byte: with 1 the body opens with the rows' print positions. The bytes stand here as they are in the file.
 pub struct Entry {
@@ -88,7 +100,7 @@ pub fn entry_at(file: &[u8], i: usize) -> Entry
     requires { ⌜ entryPlace (i + 1) ≤ length (now file) ⌝ }
     ensures { λ r. ⌜ r ≡ entryOf (now (file .entry)) i ⌝ }
 {
-    let at = 4 + 16 * i;
+    let at = COUNT_BYTES + ENTRY_BYTES * i;
     Entry {
         offset: little_endian(file, at, 4) as u32,
         rows: little_endian(file, at + 4, 2) as u16,
@@ -172,7 +184,7 @@ fn codes_wrong(file: &[u8], i: usize, e: Entry) -> bool
     if e.positions > 1 {
         return true;
     }
-    little_endian(file, 4 + 16 * i + 11, 5) != 0
+    little_endian(file, COUNT_BYTES + ENTRY_BYTES * i + 11, 5) != 0
 }
 
 // What is wrong with entry `i`, which is `e` and whose body is due at `due`.
@@ -199,7 +211,7 @@ fn check_entries(file: &[u8], count: usize) -> FileCheck
     requires { ⌜ (count ≡ countOf (now file)) × (entryPlace count ≤ length (now file)) ⌝ }
     ensures { λ r. ⌜ r ≡ checkOf (firstMet (now (file .entry)) (refusalsFrom 0 count)) ⌝ }
 {
-    let mut due = 4 + 16 * count;
+    let mut due = COUNT_BYTES + ENTRY_BYTES * count;
     for i in 0..count {
         let e = entry_at(file, i);
         if let Fault::Met(refusal) = entry_fault(file, i, e, due) {
@@ -217,20 +229,20 @@ fn check_entries(file: &[u8], count: usize) -> FileCheck
 pub fn check_file(file: &[u8]) -> FileCheck
     ensures { λ r. ⌜ r ≡ checkOf (readFile (now (file .entry))) ⌝ }
 {
-    if file.len() < 4 {
+    if file.len() < COUNT_BYTES {
         return FileCheck::Refused(FileRefusal::Size);
     }
-    if file.len() > 65_536 {
+    if file.len() > LARGEST {
         return FileCheck::Refused(FileRefusal::Size);
     }
-    let count = little_endian(file, 0, 4) as usize;
+    let count = little_endian(file, 0, COUNT_BYTES) as usize;
     if count < 1 {
         return FileCheck::Refused(FileRefusal::Count);
     }
-    if count > 64 {
+    if count > MOST_ENTRIES {
         return FileCheck::Refused(FileRefusal::Count);
     }
-    if file.len() < 4 + 16 * count {
+    if file.len() < COUNT_BYTES + ENTRY_BYTES * count {
         return FileCheck::Refused(FileRefusal::ContentsCut);
     }
     check_entries(file, count)
@@ -240,14 +252,14 @@ pub fn check_file(file: &[u8]) -> FileCheck
 pub fn next_at(file: &[u8], i: usize) -> Next
     ensures { λ r. ⌜ r ≡ nextOf (now (file .entry)) i ⌝ }
 {
-    if file.len() < 4 {
+    if file.len() < COUNT_BYTES {
         return Next::End;
     }
-    let count = little_endian(file, 0, 4) as usize;
+    let count = little_endian(file, 0, COUNT_BYTES) as usize;
     if i >= count {
         return Next::End;
     }
-    if file.len() < 4 + 16 * (i + 1) {
+    if file.len() < COUNT_BYTES + ENTRY_BYTES * (i + 1) {
         return Next::End;
     }
     Next::Sheet(entry_at(file, i))

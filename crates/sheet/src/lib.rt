@@ -1,4 +1,3 @@
-// The sheet file (document 01, "The sheet program"): checked and read, and the lines that answer it.
+// The sheet file (document 01, "The sheet program"): checked and read.
 pub mod file;
-pub mod lines;
 pub mod reader;

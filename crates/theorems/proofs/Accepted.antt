@@ -26,13 +26,14 @@ use Rattle.design.specs.Sheet.{columnsOf}
 use Rattle.design.specs.Matrix.{Matrix, finiteMatrix}
 use Rattle.design.specs.Factor.{pivotsOf}
 use Rattle.design.specs.Inverse.{inverseOf}
-use Rattle.design.specs.Law.{lawFrom, lawAnswer, normalP}
-use Rattle.design.specs.declared.Alternative.{Alternative}
+use Rattle.design.specs.Law.{lawFrom, lawAnswer}
+use Rattle.outcome.specs.P.{normalP, exactP}
+use Rattle.outcome.specs.declared.Alternative.{Alternative}
 use Rattle.design.specs.declared.LawAnswer.{LawAnswer}
 use Rattle.design.specs.declared.LawAnswer.the-variants as answer
 use Rattle.design.specs.declared.Pivots.{Pivots}
 use Rattle.design.specs.declared.Pivots.the-variants.{Hold, Fails}
-use Rattle.design.proofs.Bounds.{columns-p-within-one}
+use Rattle.outcome.proofs.Bounds.{columns-p-within-one}
 use Rattle.projection.specs.Projection.{mamOf}
 use Rattle.tridiagonal.specs.Reflection.{tridiagonalOf}
 use Rattle.tridiagonal.specs.Bands.{diagonalOf, couplingsOf}
@@ -51,16 +52,20 @@ use Rattle.imhof.specs.declared.Exact.{Exact}
 use Rattle.imhof.specs.declared.Exact.the-variants.{NoWeight, NotFinite, Value}
 use Rattle.imhof.proofs.Probability.{probability-within}
 use Rattle.imhof.proofs.Ending.{small-of-integral, small-of-certain, few-small}
-use Rattle.dwtest.specs.Refusals.{refusal, passes, columnsRefusal, statisticRefusal, rowsRefusal, pivotsRefusal, inverseRefusal, roomRefusal}
-use Rattle.dwtest.specs.Result.{refusedOf, acceptedOf, wantsExact, exactP, noLaw}
-use Rattle.dwtest.specs.Paths.{normalPath, exactPath, byLaw, bySpectrum, direct, together}
-use Rattle.dwtest.specs.Test.{roomOf, designOf, testOf}
-use Rattle.dwtest.specs.declared.Refusal.{Refusal}
-use Rattle.dwtest.specs.declared.Outcome.{Outcome}
-use Rattle.dwtest.specs.declared.Choice.{Choice}
-use Rattle.dwtest.specs.declared.paths.Leaving.{Leaving}
+use Rattle.outcome.specs.Refusals.{refusal, passes, columnsRefusal, statisticRefusal, rowsRefusal, pivotsRefusal, inverseRefusal, roomRefusal}
+use Rattle.outcome.specs.Result.{fewRows, byImhofPath, byLawPath, fewForLaw, refusedOf, acceptedOf, wantsExact, noLaw, direct, fallenBack, workedOut}
+use Rattle.dwtest.specs.Layout.{layoutFrom}
+use Rattle.dwtest.specs.Verdict.{normalPath, exactPath, bySpectrum, finish}
+use Rattle.dwtest.specs.declared.verdict.Said.the-variants.{Answered, LawDue}
+use Rattle.outcome.specs.Rooms.{roomOf}
+use Rattle.dwtest.specs.Test.{asking, designOf, testOf}
+use Rattle.outcome.specs.declared.Asked.{Asked}
+use Rattle.outcome.specs.declared.Refusal.{Refusal}
+use Rattle.outcome.specs.declared.Outcome.{Outcome}
+use Rattle.outcome.specs.declared.Choice.{Choice}
+use Rattle.outcome.specs.declared.Leaving.{Leaving}
 use Rattle.dwtest.proofs.TestLaws.{pivot-fails, inverse-refused, too-few, by-normal, no-room, by-exact, columns-refused, statistic-refused, rows-refused, runs-pass}
-use Rattle.dwtest.proofs.SheetLaws.{sized-of, pivots-hold}
+use Rattle.outcome.proofs.PassLaws.{sized-of, pivots-hold}
 use Rattle.theorems.specs.Document.{empty, firstGiven, rows, bothSigns, exactDue, fellBack, weightsLeft, couplingWasLeft, errorSum, settledDue}
 use Rattle.theorems.proofs.Order.{value-is, none-left, weight-left, valued, as-document}
 use Rattle.theorems.proofs.Unit.{exact-p-within}
@@ -71,6 +76,9 @@ module _ (e x : List Float) (k : ℕ) (a : Alternative) (choice : Choice) (matri
 
   abbrev d : Float
   d = durbinWatson e
+
+  abbrev asked : Asked
+  asked = asking d a n
 
   abbrev inverse : Matrix
   inverse = inverseOf x n k
@@ -99,14 +107,14 @@ module _ (e x : List Float) (k : ℕ) (a : Alternative) (choice : Choice) (matri
     -- a refusal
     pub refused : (r : Refusal) → passes r ≡ false → P (refusedOf r)
     -- path 1
-    pub short : ltb n 3 ≡ true → P (acceptedOf d one a n 1 false 0 noWork true noLaw)
+    pub short : ltb n 3 ≡ true → P (acceptedOf asked one fewRows direct noLaw)
     -- paths 4 and 3, with what the exact path left
-    pub early : (left : Leaving) → LeftBy left → P (acceptedOf d one a n 4 (left .fallback) (left .kept) (left .work) (left .settled) noLaw)
+    pub early : (left : Leaving) → LeftBy left → P (acceptedOf asked one fewForLaw left noLaw)
     pub normal : (left : Leaving) (law : NormalLaw) → LeftBy left → lawAnswer (lawFrom x n k inverse) ≡ answer.Usable law
-        → P (acceptedOf d (normalP law d a) a n 3 (left .fallback) (left .kept) (left .work) (left .settled) law)
+        → P (acceptedOf asked (normalP law d a) byLawPath left law)
     -- path 2
     pub exact : (s : Numbers) (q : Estimate) → due ≡ true → back ≡ false → s .stuck ≡ left? → imhofOf kept d .answer ≡ Value q
-        → P (acceptedOf d (exactP (q .probability) a) a n 2 false (s .count) (together (s .work) (q .tally)) (not (s .stuck) && q .small) noLaw)
+        → P (acceptedOf asked (exactP (q .probability) a) byImhofPath (workedOut s q) noLaw)
 
   -- the eigenvalues' mark is whether a coupling was left
   stuck-is : (s : Numbers) → spectrumOf x inverse n k ≡ Kept s → s .stuck ≡ left?
@@ -114,47 +122,47 @@ module _ (e x : List Float) (k : ℕ) (a : Alternative) (choice : Choice) (matri
   stuck-is s g = kept-told x inverse n k s g .1
 
   module _ (P : Outcome → Type 0) (shown : Shown P) where
-    normal-shown : (left : Leaving) → LeftBy left → P (normalPath x n k inverse d a left)
+    normal-shown : (left : Leaving) → LeftBy left → P (normalPath (layoutFrom x n k inverse) asked left)
     unfolding normalPath
     normal-shown left f = go (ltb n 5) (lawAnswer (lawFrom x n k inverse)) refl
       where
         go : (b : Bool) (l : LawAnswer) → lawAnswer (lawFrom x n k inverse) ≡ l
-            → P (cond b (acceptedOf d one a n 4 (left .fallback) (left .kept) (left .work) (left .settled) noLaw) (byLaw l d a n left))
+            → P (finish l asked (cond b (Answered (acceptedOf asked one fewForLaw left noLaw)) (LawDue left)))
         go true l h = shown .early left f
         go false (answer.Usable law) h = shown .normal left law f h
         go false answer.NotFinite h = shown .refused (refusal 13 5) refl
         go false answer.NotSpread h = shown .refused (refusal 14 0) refl
 
-    exact-shown : due ≡ true → P (exactPath x n k inverse d a)
+    exact-shown : due ≡ true → P (exactPath (layoutFrom x n k inverse) asked)
     unfolding exactPath
     exact-shown is-due = go (spectrumOf x inverse n k) refl (imhofOf kept d .answer) refl
       where
-        go : (s : Spectrum) → spectrumOf x inverse n k ≡ s → (q : Exact) → imhofOf kept d .answer ≡ q → P (bySpectrum x n k inverse d a s)
+        go : (s : Spectrum) → spectrumOf x inverse n k ≡ s → (q : Exact) → imhofOf kept d .answer ≡ q → P (finish (layoutFrom x n k inverse .law) asked (bySpectrum s kept asked))
         go MatrixNotFinite g q h = shown .refused (refusal 13 2) refl
         go NumberNotFinite g q h = shown .refused (refusal 13 3) refl
         go (Kept s) g NoWeight h =
-            rw h (normal-shown (record { fallback = true; kept = s .count; work = s .work; settled = not (s .stuck) })
+            rw h (unfold normalPath in normal-shown (fallenBack s)
             (rw (is-due, none-left kept d h, stuck-is s g) (refl, refl, refl)))
         go (Kept s) g NotFinite h = rw h (shown .refused (refusal 13 4) refl)
         go (Kept s) g (Value q) h = rw h (shown .exact s q is-due (rw (is-due, weight-left kept d (Value q) h valued) refl) (stuck-is s g) h)
 
-    decided-shown : P (designOf roomOf x n k d a choice matrixRoom partRoom)
+    decided-shown : P (designOf roomOf x n k asked choice matrixRoom partRoom)
     decided-shown =
         go (pivotsOf x n k) refl (passes (inverseRefusal k inverse)) refl (ltb n 3) refl (wantsExact choice n) refl (passes (roomRefusal (roomOf n) matrixRoom partRoom)) refl
       where
         go : (p : Pivots) → pivotsOf x n k ≡ p → (i : Bool) → passes (inverseRefusal k inverse) ≡ i → (f : Bool) → ltb n 3 ≡ f → (w : Bool) → wantsExact choice n ≡ w
-            → (r : Bool) → passes (roomRefusal (roomOf n) matrixRoom partRoom) ≡ r → P (designOf roomOf x n k d a choice matrixRoom partRoom)
+            → (r : Bool) → passes (roomRefusal (roomOf n) matrixRoom partRoom) ≡ r → P (designOf roomOf x n k asked choice matrixRoom partRoom)
         go (Fails c) h i g f j w l r m =
-            subst P (sym (pivot-fails roomOf x n k d a choice matrixRoom partRoom (Fails c) h refl .0)) (shown .refused (pivotsRefusal (Fails c)) refl)
+            subst P (sym (pivot-fails roomOf x n k asked choice matrixRoom partRoom (Fails c) h refl .0)) (shown .refused (pivotsRefusal (Fails c)) refl)
         go Hold h false g f j w l r m =
-            subst P (sym (inverse-refused roomOf x n k d a choice matrixRoom partRoom inverse h refl g .0)) (shown .refused (inverseRefusal k inverse) g)
-        go Hold h true g true j w l r m = subst P (sym (too-few roomOf x n k d a choice matrixRoom partRoom inverse h refl g j .0)) (shown .short j)
+            subst P (sym (inverse-refused roomOf x n k asked choice matrixRoom partRoom inverse h refl g .0)) (shown .refused (inverseRefusal k inverse) g)
+        go Hold h true g true j w l r m = subst P (sym (too-few roomOf x n k asked choice matrixRoom partRoom inverse h refl g j .0)) (shown .short j)
         go Hold h true g false j false l r m =
-            subst P (sym (by-normal roomOf x n k d a choice matrixRoom partRoom inverse h refl g j l .0)) (normal-shown direct (rw (j, l) (refl, refl, refl)))
+            subst P (sym (by-normal roomOf x n k asked choice matrixRoom partRoom inverse h refl g j l .0)) (normal-shown direct (rw (j, l) (refl, refl, refl)))
         go Hold h true g false j true l false m =
-            subst P (sym (no-room roomOf x n k d a choice matrixRoom partRoom inverse h refl g j l m .0)) (shown .refused (roomRefusal (roomOf n) matrixRoom partRoom) m)
+            subst P (sym (no-room roomOf x n k asked choice matrixRoom partRoom inverse h refl g j l m .0)) (shown .refused (roomRefusal (roomOf n) matrixRoom partRoom) m)
         go Hold h true g false j true l true m =
-            subst P (sym (by-exact roomOf x n k d a choice matrixRoom partRoom inverse h refl g j l m .0)) (exact-shown (rw (j, l) refl))
+            subst P (sym (by-exact roomOf x n k asked choice matrixRoom partRoom inverse h refl g j l m .0)) (exact-shown (rw (j, l) refl))
 
     -- EVERY OUTCOME
     pub every : P outcome
@@ -168,7 +176,7 @@ module _ (e x : List Float) (k : ℕ) (a : Alternative) (choice : Choice) (matri
             subst P (sym (rows-refused roomOf e x k a choice matrixRoom partRoom (columnsOf x n k) refl c (durbinWatsonAnswer e) refl f g .0)) (shown .refused (rowsRefusal n k) g)
         go true c true f true g =
             subst P (sym (runs-pass roomOf e x k a choice matrixRoom partRoom (columnsOf x n k) refl c (durbinWatsonAnswer e) refl f g .0))
-            (subst (λ v. P (designOf roomOf x n k v a choice matrixRoom partRoom)) (sym (value-is e x k a choice matrixRoom partRoom f)) decided-shown)
+            (subst (λ v. P (designOf roomOf x n k (asking v a n) choice matrixRoom partRoom)) (sym (value-is e x k a choice matrixRoom partRoom f)) decided-shown)
 
   -- ---- the statistic
 
@@ -181,7 +189,7 @@ module _ (e x : List Float) (k : ℕ) (a : Alternative) (choice : Choice) (matri
 
       go : (c : Bool) → passes (columnsRefusal (columnsOf x n k)) ≡ c → (s : Statistic) → durbinWatsonAnswer e ≡ s → (n ≤ 256) × (durbinWatsonAnswer e ≡ statistic.Value d)
       go false c s h = absurd (never c (columns-refused roomOf e x k a choice matrixRoom partRoom (columnsOf x n k) refl c .0))
-      go true c (statistic.Value v) h = (sized-of x n k c .rows, h ∙ ap statistic.Value (sym (accepted e v h .is)))
+      go true c (statistic.Value v) h = (sized-of x n k c .fits .0, h ∙ ap statistic.Value (sym (accepted e v h .is)))
       go true c statistic.Empty h = absurd (never refl (statistic-refused roomOf e x k a choice matrixRoom partRoom (columnsOf x n k) refl c statistic.Empty h refl .0))
       go true c statistic.Single h = absurd (never refl (statistic-refused roomOf e x k a choice matrixRoom partRoom (columnsOf x n k) refl c statistic.Single h refl .0))
       go true c (statistic.NotFinite t) h = absurd (never refl (statistic-refused roomOf e x k a choice matrixRoom partRoom (columnsOf x n k) refl c (statistic.NotFinite t) h refl .0))

@@ -14,7 +14,7 @@ use Rattle.autocorrelation.specs.Statistic.{durbinWatsonAnswer}
 use Rattle.design.specs.Matrix.{row, matrix, every}
 use Rattle.design.specs.Factor.{leftTo, factorOf, failsAt, pivotsOf}
 use Rattle.design.specs.Inverse.{lowerInverse, inverseFrom}
-use Rattle.design.specs.declared.Alternative.the-variants.{Greater}
+use Rattle.outcome.specs.declared.Alternative.the-variants.{Greater}
 use Rattle.projection.specs.Projection.{weight, hat, residual, product}
 use Rattle.tridiagonal.specs.Reflection.{columnOf, reflected}
 use Rattle.ql.specs.Ql.{settled, qlOf, stuckOf}
@@ -25,9 +25,9 @@ use Rattle.eigen.specs.Spectrum.{bandsWorked, deliveredOf, deliveredNumbers, sp
 use Rattle.imhof.specs.Weights.{weightsOf}
 use Rattle.imhof.specs.Weights as weights
 use Rattle.imhof.specs.Imhof.{clampOf, imhofOf}
-use Rattle.dwtest.specs.Paths.{exactPath}
+use Rattle.dwtest.specs.Verdict.{exactPath}
 use Rattle.dwtest.specs.Test.{testWith}
-use Rattle.dwtest.specs.declared.Choice.the-variants.{Exact}
+use Rattle.outcome.specs.declared.Choice.the-variants.{Exact}
 use Rattle.theorems.specs.Sheets.{Sheet, sheet, outcomeOf, minusOne}
 use Rattle.theorems.specs.Figures.{Figures, passedOn, AcceptedExact, OneLayout}
 

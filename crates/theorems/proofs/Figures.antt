@@ -22,7 +22,7 @@ use Rattle.design.specs.Sheet.{columnsOf}
 use Rattle.design.specs.Matrix.{Matrix}
 use Rattle.design.specs.Inverse.{inverseOf}
 use Rattle.design.specs.Law.{lawFrom, lawAnswer}
-use Rattle.design.specs.declared.Alternative.{Alternative}
+use Rattle.outcome.specs.declared.Alternative.{Alternative}
 use Rattle.design.specs.declared.LawAnswer.{LawAnswer}
 use Rattle.design.specs.declared.LawAnswer.the-variants as answer
 use Rattle.projection.specs.Projection.{mamOf}
@@ -37,15 +37,18 @@ use Rattle.imhof.specs.declared.Estimate.{Estimate}
 use Rattle.imhof.specs.declared.Exact.{Exact}
 use Rattle.imhof.specs.declared.Exact.the-variants.{NoWeight, NotFinite, Value}
 use Rattle.imhof.proofs.Ending.{few-small}
-use Rattle.dwtest.specs.Refusals.{passes, firstOf, columnsRefusal, statisticRefusal, roomRefusal, runChecks, designChecks}
-use Rattle.dwtest.specs.Result.{refusedOf, acceptedOf, wantsExact, noLaw}
-use Rattle.dwtest.specs.Paths.{normalPath, byLaw, fallenBack, byImhof, bySpectrum, exactPath}
-use Rattle.dwtest.specs.Test.{unlessRefused, roomOf, exactOf, answerOf, designOf, testWith, testOf}
-use Rattle.dwtest.specs.declared.Refusal.{Refusal}
-use Rattle.dwtest.specs.declared.Outcome.{Outcome}
-use Rattle.dwtest.specs.declared.Choice.{Choice}
-use Rattle.dwtest.specs.declared.paths.Leaving.{Leaving}
-use Rattle.dwtest.proofs.SheetLaws.{Sized, sized-of}
+use Rattle.outcome.specs.Refusals.{passes, firstOf, columnsRefusal, statisticRefusal, roomRefusal}
+use Rattle.dwtest.specs.Layout.{designChecks, Layout, layoutFrom, layoutOf}
+use Rattle.dwtest.specs.Test.{asking, runChecks, unlessRefused, answerOf, designOf, testWith, testOf}
+use Rattle.outcome.specs.Result.{fewForLaw, refusedOf, acceptedOf, wantsExact, noLaw, fallenBack}
+use Rattle.dwtest.specs.Verdict.{toLaw, normalPath, byImhof, bySpectrum, finish, exactPath}
+use Rattle.dwtest.specs.declared.verdict.Said.the-variants.{Answered, LawDue}
+use Rattle.outcome.specs.Rooms.{roomOf}
+use Rattle.outcome.specs.declared.Refusal.{Refusal}
+use Rattle.outcome.specs.declared.Outcome.{Outcome}
+use Rattle.outcome.specs.declared.Choice.{Choice}
+use Rattle.outcome.specs.declared.Leaving.{Leaving}
+use Rattle.outcome.proofs.PassLaws.{Sized, sized-of}
 use Rattle.theorems.specs.Document.{exactDue, integralEnded}
 use Rattle.theorems.specs.Sheets.{Sheet, outcomeOf}
 use Rattle.theorems.specs.Figures.{Figures, countIn, sweepsIn, figuresOf, figuresIn, passedOn, AcceptedExact, OneLayout, ExactTold, FiguresShown, SweepHalfTold, FiguresCounted, SameRows, SameFigures, SameMark, SameResult, SameOnPathTwo}
@@ -84,9 +87,9 @@ module _ (e x : List Float) (k : ℕ) (a : Alternative) (c : Choice) (m p : ℕ)
   d = value (durbinWatsonAnswer e)
 
   -- past refusals 1 to 10
-  runs : (passes (firstOf (runChecks e x k)) ≡ true) × (testOf e x k a c m p ≡ designOf roomOf x n k d a c m p)
+  runs : (passes (firstOf (runChecks e x k)) ≡ true) × (testOf e x k a c m p ≡ designOf roomOf x n k (asking d a n) c m p)
   unfolding testWith
-  runs = past (runChecks e x k) (designOf roomOf x n k d a c m p) accepted
+  runs = past (runChecks e x k) (designOf roomOf x n k (asking d a n) c m p) accepted
 
   sized : Sized x n k
   sized = sized-of x n k (first-passes (columnsRefusal (columnsOf x n k)) _ (runs .0) .0)
@@ -95,35 +98,47 @@ module _ (e x : List Float) (k : ℕ) (a : Alternative) (c : Choice) (m p : ℕ)
   value-told = value-is e x k a c m p (first-passes (statisticRefusal (durbinWatsonAnswer e)) _ (first-passes (columnsRefusal (columnsOf x n k)) _ (runs .0) .1) .0)
 
   -- past 11 and stage 1 of 13
-  design : testOf e x k a c m p ≡ answerOf roomOf x n k d a c m p
+  design : testOf e x k a c m p ≡ answerOf roomOf n (layoutOf x n k) (asking d a n) c m p
   unfolding designOf
-  design = runs .1 ∙ past (designChecks x n k) (answerOf roomOf x n k d a c m p) (subst (λ o. passes (o .refusal) ≡ true) (runs .1) accepted) .1
+  design = runs .1 ∙ past (designChecks x n k) (answerOf roomOf n (layoutOf x n k) (asking d a n) c m p) (subst (λ o. passes (o .refusal) ≡ true) (runs .1) accepted) .1
 
-  -- three rows or more, and exact
-  room : testOf e x k a c m p ≡ exactOf roomOf x n k d a c m p
-  room = let rows = enough (ltb n 3) (wantsExact c n) due in design ∙ rw (rows .0, rows .1) refl
+  -- three rows or more, exact, and past 12
+  room : testOf e x k a c m p ≡ exactPath (layoutOf x n k) (asking d a n)
+  unfolding exactPath
+  room = let rows = enough (ltb n 3) (wantsExact c n) due in go (passes (roomRefusal (roomOf n) m p)) refl rows
+    where
+      go : (b : Bool) → passes (roomRefusal (roomOf n) m p) ≡ b → (ltb n 3 ≡ false) × (wantsExact c n ≡ true) → testOf e x k a c m p ≡ exactPath (layoutOf x n k) (asking d a n)
+      go true h rows = design ∙ rw (rows .0, rows .1, h) refl
+      go false h rows =
+          let refused : testOf e x k a c m p ≡ refusedOf (roomRefusal (roomOf n) m p) = design ∙ rw (rows .0, rows .1, h) refl in
+          absurd (true≢false (sym accepted ∙ ap (λ o. passes (o .refusal)) refused ∙ h))
 
-  -- THE EXACT PATH, past 12: of the residuals, how many there are and their statistic come in, and nothing else
-  pub exact-is : testOf e x k a c m p ≡ exactPath x n k (inverseOf x n k) (durbinWatson e) a
-  exact-is =
-      room ∙ past (roomRefusal (roomOf n) m p ∷ []) (exactPath x n k (inverseOf x n k) d a) (subst (λ o. passes (o .refusal) ≡ true) room accepted) .1
-      ∙ ap (λ v. exactPath x n k (inverseOf x n k) v a) value-told
+  -- THE EXACT PATH: of the residuals, how many there are and their statistic come in, and nothing else
+  pub exact-is : testOf e x k a c m p ≡ exactPath (layoutOf x n k) (asking (durbinWatson e) a n)
+  exact-is = room ∙ ap (λ v. exactPath (layoutOf x n k) (asking v a n)) value-told
 
 -- ---- kept count and sweeps
 module _ (x : List Float) (n k : ℕ) (inverse : Matrix) (d : Float) (a : Alternative) where
+  abbrev layout : Layout
+  layout = layoutFrom x n k inverse
+
   -- paths 3 and 4 hand on what the exact path left
   abbrev Hands : Leaving → Outcome → Type 0
   Hands left o = passes (o .refusal) ≡ true → (o .kept ≡ left .kept) × (o .work ≡ left .work)
 
-  normal-hands : (left : Leaving) → Hands left (normalPath x n k inverse d a left)
+  normal-hands : (left : Leaving) → Hands left (normalPath layout (asking d a n) left)
   unfolding normalPath
   normal-hands left = go (ltb n 5) (lawAnswer (lawFrom x n k inverse))
     where
-      go : (b : Bool) (l : LawAnswer) → Hands left (cond b (acceptedOf d one a n 4 (left .fallback) (left .kept) (left .work) (left .settled) noLaw) (byLaw l d a n left))
+      go : (b : Bool) (l : LawAnswer) → Hands left (finish l (asking d a n) (cond b (Answered (acceptedOf (asking d a n) one fewForLaw left noLaw)) (LawDue left)))
       go true l q = (refl, refl)
       go false (answer.Usable law) q = (refl, refl)
       go false answer.NotFinite q = absurd (true≢false (sym q))
       go false answer.NotSpread q = absurd (true≢false (sym q))
+
+  handed : (s : Numbers) → Hands (fallenBack s) (finish (layout .law) (asking d a n) (toLaw (asking d a n) (fallenBack s)))
+  unfolding normalPath
+  handed s = normal-hands (fallenBack s)
 
   -- of the exact path they are the spectrum's, whatever the eigenvalues and the sweep half are
   module _ (numbers : List Float) (ended : Bool) where
@@ -131,18 +146,18 @@ module _ (x : List Float) (n k : ℕ) (inverse : Matrix) (d : Float) (a : Altern
     figures kept sweeps = record { eigenvalues = numbers; kept = kept; sweeps = sweeps; settledSweeps = ended }
 
     -- by path 2
-    value-shows : (s : Numbers) (v : Estimate) → figuresIn numbers ended (byImhof x n k inverse d a (Value v) s) ≡ figures (s .count) (s .work .sweeps)
+    value-shows : (s : Numbers) (v : Estimate) → figuresIn numbers ended (finish (layout .law) (asking d a n) (byImhof (Value v) s (asking d a n))) ≡ figures (s .count) (s .work .sweeps)
     value-shows s v = refl
 
-    exact-shows : passes (exactPath x n k inverse d a .refusal) ≡ true → figuresIn numbers ended (exactPath x n k inverse d a) ≡ figures (countIn (spectrumOf x inverse n k)) (sweepsIn (spectrumOf x inverse n k))
+    exact-shows : passes (exactPath layout (asking d a n) .refusal) ≡ true → figuresIn numbers ended (exactPath layout (asking d a n)) ≡ figures (countIn (spectrumOf x inverse n k)) (sweepsIn (spectrumOf x inverse n k))
     unfolding exactPath
     exact-shows = go (spectrumOf x inverse n k) (imhofOf (keptNumbers x inverse n k) d .answer) refl
       where
-        go : (s : Spectrum) (q : Exact) → imhofOf (keptNumbers x inverse n k) d .answer ≡ q → passes (bySpectrum x n k inverse d a s .refusal) ≡ true
-            → figuresIn numbers ended (bySpectrum x n k inverse d a s) ≡ figures (countIn s) (sweepsIn s)
+        go : (s : Spectrum) (q : Exact) → imhofOf (keptNumbers x inverse n k) d .answer ≡ q → passes (finish (layout .law) (asking d a n) (bySpectrum s (keptNumbers x inverse n k) (asking d a n)) .refusal) ≡ true
+            → figuresIn numbers ended (finish (layout .law) (asking d a n) (bySpectrum s (keptNumbers x inverse n k) (asking d a n))) ≡ figures (countIn s) (sweepsIn s)
         go MatrixNotFinite q h = λ r. absurd (true≢false (sym r))
         go NumberNotFinite q h = λ r. absurd (true≢false (sym r))
-        go (Kept s) NoWeight h = rw h (λ r. let same = normal-hands (fallenBack s) r in rw (same .0, same .1) refl)
+        go (Kept s) NoWeight h = rw h (λ r. let same = handed s r in rw (same .0, same .1) refl)
         go (Kept s) NotFinite h = rw h (λ r. absurd (true≢false (sym r)))
         go (Kept s) (Value v) h = rw h (λ r. value-shows s v)
 
@@ -196,7 +211,7 @@ module _ (s : Sheet) where
     layout-sized : Sized x rows k
     layout-sized = sized e x k (s .alternative) (s .choice) (s .matrixRoom) (s .partRoom) (h .accepted) (h .due)
 
-    by-exact-path : outcomeOf s ≡ exactPath x rows k (inverseOf x rows k) (durbinWatson e) (s .alternative)
+    by-exact-path : outcomeOf s ≡ exactPath (layoutOf x rows k) (asking (durbinWatson e) (s .alternative) rows)
     by-exact-path = exact-is e x k (s .alternative) (s .choice) (s .matrixRoom) (s .partRoom) (h .accepted) (h .due)
 
     figures-are : passedOn s ≡ figuresOf x rows k
@@ -275,7 +290,7 @@ same-rows s s' layout h h' =
     let n' = length (s' .residuals) in
     let run : length (s .columns) ≡ length (s' .columns) = ap length (layout .columns) in
     eq-of-mul-eq-mul-right (s .count) (layout-sized s h .some) n n'
-    (mul-comm n (s .count) ∙ layout-sized s h .run ∙ run ∙ sym (layout-sized s' h' .run) ∙ ap (λ (k : ℕ). k * n') (sym (layout .count)) ∙ mul-comm (s .count) n')
+    (mul-comm n (s .count) ∙ layout-sized s h .fits .2 ∙ run ∙ sym (layout-sized s' h' .fits .2) ∙ ap (λ (k : ℕ). k * n') (sym (layout .count)) ∙ mul-comm (s .count) n')
 
 pub same-figures : SameFigures
 same-figures s s' layout h h' =

@@ -11,10 +11,11 @@ use lib.Seq.{drop-at}
 use lib.Ieee.{Float}
 use borrow.Author.Tests.{le-ltb}
 use Rattle.floats.specs.Words.{plusZero}
-use Rattle.design.specs.declared.Alternative.{Alternative}
-use Rattle.dwtest.specs.Refusals.{firstOf}
-use Rattle.dwtest.specs.Test.{roomOf, designOf, testWith, touchedWith, testOf, touched, clearedOf}
-use Rattle.dwtest.specs.declared.Choice.{Choice}
+use Rattle.outcome.specs.declared.Alternative.{Alternative}
+use Rattle.outcome.specs.Refusals.{firstOf}
+use Rattle.outcome.specs.Rooms.{roomOf, clearedOf}
+use Rattle.dwtest.specs.Test.{designOf, testWith, touchedWith, testOf, touched}
+use Rattle.outcome.specs.declared.Choice.{Choice}
 use Rattle.theorems.specs.Full.{fullRoom, fullTestOf, fullTouched}
 
 -- n (n + 1) is at most 2n²

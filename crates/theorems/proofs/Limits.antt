@@ -16,10 +16,10 @@ use Rattle.autocorrelation.specs.Bound.{all?}
 use Rattle.design.specs.Matrix.{row, matrix, every}
 use Rattle.design.specs.Factor.{leftTo, factorOf, failsAt, pivotsOf}
 use Rattle.design.specs.Inverse.{lowerInverse, inverseFrom}
-use Rattle.design.specs.declared.Alternative.the-variants.{Greater}
-use Rattle.dwtest.specs.Refusals.{firstOf}
+use Rattle.outcome.specs.declared.Alternative.the-variants.{Greater}
+use Rattle.outcome.specs.Refusals.{firstOf}
 use Rattle.dwtest.specs.Test.{designOf, testWith}
-use Rattle.dwtest.specs.declared.Choice.the-variants.{Default}
+use Rattle.outcome.specs.declared.Choice.the-variants.{Default}
 use Rattle.theorems.specs.Sheets.{sheet, Answer, refused, answered, answerTo, ones}
 use Rattle.theorems.specs.Scan.{power, scaled, ruled}
 

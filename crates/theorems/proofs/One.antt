@@ -10,7 +10,7 @@ use Rattle.floats.specs.Search.{firstBad}
 use Rattle.floats.specs.declared.search.Found.{Found}
 use Rattle.floats.specs.declared.tally.Tally.{Tally}
 use Rattle.design.specs.Matrix.{Matrix}
-use Rattle.design.specs.declared.Alternative.{Alternative}
+use Rattle.outcome.specs.declared.Alternative.{Alternative}
 use Rattle.projection.specs.Projection.{mamOf, residualMaker}
 use Rattle.tridiagonal.specs.Reflection.{tridiagonalOf}
 use Rattle.tridiagonal.specs.Bands.{diagonalOf, couplingsOf}
@@ -21,9 +21,10 @@ use Rattle.eigen.specs.declared.Spectrum.{Spectrum}
 use Rattle.imhof.specs.Room.{laidOut}
 use Rattle.imhof.specs.Imhof.{imhofOf}
 use Rattle.imhof.specs.declared.Exact.{Exact}
-use Rattle.dwtest.specs.Test.{roomOf, testOf, touched, clearedOf}
-use Rattle.dwtest.specs.declared.Outcome.{Outcome}
-use Rattle.dwtest.specs.declared.Choice.{Choice}
+use Rattle.outcome.specs.Rooms.{roomOf, partRoom, clearedOf}
+use Rattle.dwtest.specs.Test.{testOf, touched}
+use Rattle.outcome.specs.declared.Outcome.{Outcome}
+use Rattle.outcome.specs.declared.Choice.{Choice}
 
 -- two values of one thing
 both : {A : Type 0} {r s t : A} → r ≡ t → s ≡ t → r ≡ s
@@ -35,7 +36,7 @@ module _ (e x : List Float) (k : ℕ) (a : Alternative) (choice : Choice) (matri
   Promised r matrixAfter partsAfter =
       (r ≡ testOf e x k a choice (length matrix) (length parts)) ×
       (matrixAfter ≡ clearedOf (touched e x k choice (length matrix) (length parts)) (roomOf (length e)) matrix) ×
-      (partsAfter ≡ clearedOf (touched e x k choice (length matrix) (length parts)) 8004 parts)
+      (partsAfter ≡ clearedOf (touched e x k choice (length matrix) (length parts)) partRoom parts)
 
   pub one-outcome : (r s : Outcome) (m m' p p' : List Float) → Promised r m p → Promised s m' p' → (r ≡ s) × (m ≡ m') × (p ≡ p')
   one-outcome r s m m' p p' f g = (both (f .0) (g .0), both (f .1) (g .1), both (f .2) (g .2))

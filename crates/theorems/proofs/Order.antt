@@ -26,7 +26,7 @@ use Rattle.design.specs.Matrix.{Matrix, finiteMatrix}
 use Rattle.design.specs.Factor.{pivotsOf, failsAt}
 use Rattle.design.specs.Inverse.{inverseOf}
 use Rattle.design.specs.Law.{lawFrom, lawOf, lawAnswer}
-use Rattle.design.specs.declared.Alternative.{Alternative}
+use Rattle.outcome.specs.declared.Alternative.{Alternative}
 use Rattle.projection.specs.Projection.{mamOf}
 use Rattle.eigen.specs.Spectrum.{numbersOf, spectrumOf, keptNumbers, deliveredOf, deliveredNumbers}
 use Rattle.imhof.specs.Weights.{weightsOf}
@@ -35,16 +35,19 @@ use Rattle.imhof.specs.declared.Estimate.{Estimate}
 use Rattle.imhof.specs.declared.Exact.{Exact}
 use Rattle.imhof.specs.declared.Exact.the-variants.{NoWeight, NotFinite, Value}
 use Rattle.imhof.proofs.Probability.{no-weight}
-use Rattle.dwtest.specs.Refusals.{passed, refusal, passes, firstOf, columnsRefusal, statisticRefusal, roomRefusal, lawRefusal}
-use Rattle.dwtest.specs.Result.{wantsExact}
-use Rattle.dwtest.specs.Paths.{normalPath, exactPath, byLaw, direct}
+use Rattle.outcome.specs.Refusals.{passed, refusal, passes, firstOf, columnsRefusal, statisticRefusal, roomRefusal, lawRefusal}
+use Rattle.outcome.specs.Result.{wantsExact, direct}
+use Rattle.dwtest.specs.Verdict.{normalPath, exactPath, byLaw}
 use Rattle.dwtest.proofs.TestLaws.{columns-refused, statistic-refused, rows-refused, runs-pass}
-use Rattle.dwtest.specs.Test.{roomOf, answerOf, designOf, testOf}
+use Rattle.outcome.specs.Rooms.{roomOf}
+use Rattle.dwtest.specs.Layout.{layoutFrom, layoutOf}
+use Rattle.dwtest.specs.Test.{asking, answerOf, designOf, testOf}
+use Rattle.outcome.specs.declared.Asked.{Asked}
 use Rattle.theorems.specs.Document.{Row, row, firstGiven, found, foundAt, empty, broken, lastRows, rows, exactDue, lawDue, Given}
-use Rattle.dwtest.specs.declared.Refusal.{Refusal}
-use Rattle.dwtest.specs.declared.Outcome.{Outcome}
-use Rattle.dwtest.specs.declared.Choice.{Choice}
-use Rattle.dwtest.specs.declared.paths.Leaving.{Leaving}
+use Rattle.outcome.specs.declared.Refusal.{Refusal}
+use Rattle.outcome.specs.declared.Outcome.{Outcome}
+use Rattle.outcome.specs.declared.Choice.{Choice}
+use Rattle.outcome.specs.declared.Leaving.{Leaving}
 
 -- ---- the first row that holds
 
@@ -73,22 +76,22 @@ lawRefused : Bool → NormalLaw → Refusal
 lawRefused due law =
     cond (due && not (finite (law .mean) && finite (law .variance))) (refusal 13 5) (cond (due && not (lt plusZero (law .variance))) (refusal 14 0) passed)
 
-by-law : (law : NormalLaw) (d : Float) (a : Alternative) (n : ℕ) (left : Leaving) → byLaw (lawAnswer law) d a n left .refusal ≡ lawRefused true law
+by-law : (law : NormalLaw) (asked : Asked) (left : Leaving) → byLaw (lawAnswer law) asked left .refusal ≡ lawRefused true law
 unfolding lawRefused
-by-law law d a n left = go (finite (law .mean) && finite (law .variance)) refl (lt plusZero (law .variance)) refl
+by-law law asked left = go (finite (law .mean) && finite (law .variance)) refl (lt plusZero (law .variance)) refl
   where
-    go : (f : Bool) → finite (law .mean) && finite (law .variance) ≡ f → (s : Bool) → lt plusZero (law .variance) ≡ s → byLaw (lawAnswer law) d a n left .refusal ≡ lawRefused true law
+    go : (f : Bool) → finite (law .mean) && finite (law .variance) ≡ f → (s : Bool) → lt plusZero (law .variance) ≡ s → byLaw (lawAnswer law) asked left .refusal ≡ lawRefused true law
     go false p s q = rw (p) refl
     go true p false q = rw (p, q) refl
     go true p true q = rw (p, q) refl
 
-normal-refused : (x : List Float) (n k : ℕ) (i : Matrix) (d : Float) (a : Alternative) (left : Leaving) → normalPath x n k i d a left .refusal ≡ lawRefused (not (ltb n 5)) (lawFrom x n k i)
+normal-refused : (x : List Float) (n k : ℕ) (i : Matrix) (asked : Asked) (left : Leaving) → normalPath (layoutFrom x n k i) asked left .refusal ≡ lawRefused (not (ltb (asked .rows) 5)) (lawFrom x n k i)
 unfolding normalPath lawRefused
-normal-refused x n k i d a left = go (ltb n 5) refl
+normal-refused x n k i asked left = go (ltb (asked .rows) 5) refl
   where
-    go : (b : Bool) → ltb n 5 ≡ b → normalPath x n k i d a left .refusal ≡ lawRefused (not (ltb n 5)) (lawFrom x n k i)
+    go : (b : Bool) → ltb (asked .rows) 5 ≡ b → normalPath (layoutFrom x n k i) asked left .refusal ≡ lawRefused (not (ltb (asked .rows) 5)) (lawFrom x n k i)
     go true h = rw h refl
-    go false h = rw h (by-law (lawFrom x n k i) d a n left)
+    go false h = rw h (by-law (lawFrom x n k i) asked left)
 
 -- ---- the exact path's rows, and the law's where no weight is left
 
@@ -125,15 +128,15 @@ module _ (x : List Float) (n k : ℕ) (inverse : Matrix) (d : Float) (a : Altern
       ∷ row (empty (weightsOf kept d) && not (ltb n 5) && not (lt plusZero (lawFrom x n k inverse .variance))) 14 0
       ∷ []
 
-  exact-refused : exactPath x n k inverse d a .refusal ≡ firstGiven exactRows
+  exact-refused : exactPath (layoutFrom x n k inverse) (asking d a n) .refusal ≡ firstGiven exactRows
   unfolding exactPath spectrumOf deliveredOf exactRows firstGiven lawRefused
   exact-refused = go (firstBad product) refl (firstBad (numbersOf n product)) refl (imhofOf kept d .answer) refl
     where
       go : (f : Found) → firstBad product ≡ f → (g : Found) → firstBad (numbersOf n product) ≡ g → (q : Exact) → imhofOf kept d .answer ≡ q
-          → exactPath x n k inverse d a .refusal ≡ firstGiven exactRows
+          → exactPath (layoutFrom x n k inverse) (asking d a n) .refusal ≡ firstGiven exactRows
       go (At t) p g q r s = rw (p) refl
       go Nothing p (At t) q r s = rw (p, q) refl
-      go Nothing p Nothing q NoWeight s = rw (p, q, s, none-left kept d s) (normal-refused x n k inverse d a _)
+      go Nothing p Nothing q NoWeight s = rw (p, q, s, none-left kept d s) (unfold normalPath in normal-refused x n k inverse (asking d a n) _)
       go Nothing p Nothing q NotFinite s = rw (p, q, s) refl
       go Nothing p Nothing q (Value v) s = rw (p, q, s, weight-left kept d (Value v) s valued) refl
 
@@ -150,27 +153,27 @@ module _ (e x : List Float) (k : ℕ) (a : Alternative) (choice : Choice) (matri
   table = firstGiven (rows e x k choice matrixRoom partRoom)
 
   -- past refusals 1 to 11 and stage 1 of 13
-  answered : answerOf roomOf x n k (durbinWatson e) a choice matrixRoom partRoom .refusal ≡ firstGiven (lastRows e x k choice matrixRoom partRoom)
+  answered : answerOf roomOf n (layoutOf x n k) (asking (durbinWatson e) a n) choice matrixRoom partRoom .refusal ≡ firstGiven (lastRows e x k choice matrixRoom partRoom)
   unfolding firstGiven firstOf lawRefused exactRows
   answered = go (ltb n 3) refl (wantsExact choice n) refl (ltb matrixRoom (roomOf n)) refl (ltb partRoom 8004) refl
     where
       go : (f : Bool) → ltb n 3 ≡ f → (w : Bool) → wantsExact choice n ≡ w → (m : Bool) → ltb matrixRoom (roomOf n) ≡ m → (p : Bool) → ltb partRoom 8004 ≡ p
-          → answerOf roomOf x n k (durbinWatson e) a choice matrixRoom partRoom .refusal ≡ firstGiven (lastRows e x k choice matrixRoom partRoom)
+          → answerOf roomOf n (layoutOf x n k) (asking (durbinWatson e) a n) choice matrixRoom partRoom .refusal ≡ firstGiven (lastRows e x k choice matrixRoom partRoom)
       go true f w g m h p j = rw (f, few n f) refl
-      go false f false g m h p j = rw (f, g) (normal-refused x n k (inverseOf x n k) (durbinWatson e) a direct)
+      go false f false g m h p j = rw (f, g) (unfold normalPath in normal-refused x n k (inverseOf x n k) (asking (durbinWatson e) a n) direct)
       go false f true g true h p j = rw (f, g, h) refl
       go false f true g false h true j = rw (f, g, h, j) refl
-      go false f true g false h false j = rw (f, g, h, j) (exact-refused x n k (inverseOf x n k) (durbinWatson e) a)
+      go false f true g false h false j = rw (f, g, h, j) (unfold exactPath in exact-refused x n k (inverseOf x n k) (durbinWatson e) a)
 
   -- refusal 11 and stage 1 of 13, then the answer
-  decided : designOf roomOf x n k (durbinWatson e) a choice matrixRoom partRoom .refusal ≡
+  decided : designOf roomOf x n k (asking (durbinWatson e) a n) choice matrixRoom partRoom .refusal ≡
       cond (found (firstWhere k (failsAt x n))) (refusal 11 (foundAt (firstWhere k (failsAt x n))))
       (cond (not (finiteMatrix k (inverseOf x n k))) (refusal 13 1) (firstGiven (lastRows e x k choice matrixRoom partRoom)))
   unfolding designOf firstOf pivotsOf
   decided = go (firstWhere k (failsAt x n)) refl (finiteMatrix k (inverseOf x n k)) refl
     where
       go : (f : Found) → firstWhere k (failsAt x n) ≡ f → (b : Bool) → finiteMatrix k (inverseOf x n k) ≡ b
-          → designOf roomOf x n k (durbinWatson e) a choice matrixRoom partRoom .refusal ≡
+          → designOf roomOf x n k (asking (durbinWatson e) a n) choice matrixRoom partRoom .refusal ≡
           cond (found (firstWhere k (failsAt x n))) (refusal 11 (foundAt (firstWhere k (failsAt x n))))
           (cond (not (finiteMatrix k (inverseOf x n k))) (refusal 13 1) (firstGiven (lastRows e x k choice matrixRoom partRoom)))
       go (At i) f b g = rw f refl

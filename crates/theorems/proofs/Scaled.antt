@@ -28,9 +28,9 @@ use Rattle.autocorrelation.proofs.SumLaws.{Among}
 use Rattle.autocorrelation.proofs.Rules.{all-at, all-finite}
 use Rattle.theorems.specs.Scan.{power, scaled, exactly, sizeLimit, powerLimit, sized, ruled, UnitLaw, StatisticUnitLaw, SizeUnitLaw, ExactUnitLaw, ZeroUnitLaw}
 use Rattle.theorems.proofs.One.{Promised}
-use Rattle.design.specs.declared.Alternative.{Alternative}
-use Rattle.dwtest.specs.declared.Outcome.{Outcome}
-use Rattle.dwtest.specs.declared.Choice.{Choice}
+use Rattle.outcome.specs.declared.Alternative.{Alternative}
+use Rattle.outcome.specs.declared.Outcome.{Outcome}
+use Rattle.outcome.specs.declared.Choice.{Choice}
 use Rattle.theorems.proofs.Seen.{answer-same, alike, allowed}
 use Rattle.theorems.proofs.Scales.{lo, hi, powers-divide, powers-fit, Times, Pair, zeros-behind, none-alike, zero-is, is-finite, zero-alone, sums-times, size-of, number-of}
 

@@ -17,10 +17,10 @@ use Rattle.floats.specs.declared.search.Found.{Found}
 use Rattle.floats.specs.declared.search.Found.the-variants.{At, Nothing}
 use Rattle.autocorrelation.specs.Statistic.{ofFound, durbinWatsonAnswer}
 use Rattle.autocorrelation.specs.declared.Statistic.the-variants.{Empty, Single}
-use Rattle.design.specs.declared.Alternative.{Alternative}
+use Rattle.outcome.specs.declared.Alternative.{Alternative}
 use Rattle.dwtest.specs.Test.{testWith, touchedWith}
-use Rattle.dwtest.specs.declared.Outcome.{Outcome}
-use Rattle.dwtest.specs.declared.Choice.{Choice}
+use Rattle.outcome.specs.declared.Outcome.{Outcome}
+use Rattle.outcome.specs.declared.Choice.{Choice}
 use Rattle.theorems.specs.Scan.{Alike}
 use Rattle.theorems.proofs.One.{Promised}
 

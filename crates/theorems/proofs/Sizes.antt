@@ -27,10 +27,10 @@ use Rattle.autocorrelation.proofs.Rounding.{Valued, round-whole, round-fine}
 use Rattle.autocorrelation.proofs.Units.{plus-is, start-is, square-is, Number}
 use Rattle.autocorrelation.proofs.SumLaws.{Among}
 use Rattle.autocorrelation.proofs.Rules.{all-finite}
-use Rattle.dwtest.specs.Refusals.{refusal}
+use Rattle.outcome.specs.Refusals.{refusal}
 use Rattle.dwtest.specs.Test.{testOf}
-use Rattle.dwtest.specs.declared.Refusal.{Refusal}
-use Rattle.dwtest.specs.declared.Choice.{Choice}
+use Rattle.outcome.specs.declared.Refusal.{Refusal}
+use Rattle.outcome.specs.declared.Choice.{Choice}
 use Rattle.theorems.specs.Document.{Row, firstGiven, found, rows}
 use Rattle.theorems.specs.Scan.{sized, zeros, SizeRefusals}
 use Rattle.theorems.proofs.Order.{as-document}

@@ -14,9 +14,9 @@ use Rattle.floats.specs.Sums.{sumOf}
 use Rattle.floats.proofs.ListLaws.{sum-same}
 use Rattle.floats.proofs.Negatives.{round-neg, square-neg}
 use Rattle.autocorrelation.specs.Statistic.{differences, squares}
-use Rattle.design.specs.declared.Alternative.{Alternative}
-use Rattle.dwtest.specs.declared.Outcome.{Outcome}
-use Rattle.dwtest.specs.declared.Choice.{Choice}
+use Rattle.outcome.specs.declared.Alternative.{Alternative}
+use Rattle.outcome.specs.declared.Outcome.{Outcome}
+use Rattle.outcome.specs.declared.Choice.{Choice}
 use Rattle.theorems.specs.Scan.{turned, StatisticSignLaw, SignLaw}
 use Rattle.theorems.proofs.One.{Promised}
 use Rattle.theorems.proofs.Seen.{answer-same, alike, allowed}

@@ -19,9 +19,9 @@ use Rattle.elementary.specs.Bounds.{Within}
 use Rattle.elementary.proofs.Small.{fraction-within}
 use Rattle.elementary.proofs.Leaning.{Leans, wide, part, nothing, round-leans}
 use Rattle.design.proofs.Bounds.{no-size, at-most, zero-from, twice-within}
-use Rattle.design.specs.declared.Alternative.{Alternative}
-use Rattle.design.specs.declared.Alternative.the-variants.{Greater, Less, TwoSided}
-use Rattle.dwtest.specs.Result.{smaller, exactP}
+use Rattle.outcome.specs.declared.Alternative.{Alternative}
+use Rattle.outcome.specs.declared.Alternative.the-variants.{Greater, Less, TwoSided}
+use Rattle.outcome.specs.P.{smaller, exactP}
 
 -- a zero that is written as negative, or a fraction from 0 to 1
 data Unit : Float → Type 0 where

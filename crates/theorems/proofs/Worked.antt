@@ -15,14 +15,14 @@ use Rattle.design.specs.Matrix.{row, matrix, every}
 use Rattle.design.specs.Factor.{leftTo, factorOf, failsAt, pivotsOf}
 use Rattle.design.specs.Inverse.{lowerInverse, inverseFrom}
 use Rattle.design.specs.Law.{lawFrom}
-use Rattle.design.specs.declared.Alternative.{Alternative}
-use Rattle.design.specs.declared.Alternative.the-variants.{Greater, Less, TwoSided}
-use Rattle.dwtest.specs.Refusals.{firstOf}
-use Rattle.dwtest.specs.Paths.{normalPath}
+use Rattle.outcome.specs.declared.Alternative.{Alternative}
+use Rattle.outcome.specs.declared.Alternative.the-variants.{Greater, Less, TwoSided}
+use Rattle.outcome.specs.Refusals.{firstOf}
+use Rattle.dwtest.specs.Verdict.{normalPath}
 use Rattle.dwtest.specs.Test.{designOf, testWith}
-use Rattle.dwtest.specs.declared.Outcome.{Outcome}
-use Rattle.dwtest.specs.declared.Choice.{Choice}
-use Rattle.dwtest.specs.declared.Choice.the-variants.{Default, Exact, Normal}
+use Rattle.outcome.specs.declared.Outcome.{Outcome}
+use Rattle.outcome.specs.declared.Choice.{Choice}
+use Rattle.outcome.specs.declared.Choice.the-variants.{Default, Exact, Normal}
 use Rattle.theorems.specs.Sheets.{Sheet, sheet, Answer, refused, answered, answerTo, minusOne, large, faint, hand-worked, refusals}
 
 pub worked : map answerTo hand-worked ≡

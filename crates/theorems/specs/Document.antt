@@ -32,10 +32,10 @@ use Rattle.imhof.specs.Parts.{errorsOf, tolerance}
 use Rattle.imhof.specs.Imhof.{lastStage, imhofOf}
 use Rattle.imhof.specs.declared.Exact.{Exact}
 use Rattle.imhof.specs.declared.Exact.the-variants.{NoWeight, NotFinite, Value}
-use Rattle.dwtest.specs.Refusals.{passed, refusal}
-use Rattle.dwtest.specs.Result.{wantsExact}
-use Rattle.dwtest.specs.declared.Refusal.{Refusal}
-use Rattle.dwtest.specs.declared.Choice.{Choice}
+use Rattle.outcome.specs.Refusals.{passed, refusal}
+use Rattle.outcome.specs.Result.{wantsExact}
+use Rattle.outcome.specs.declared.Refusal.{Refusal}
+use Rattle.outcome.specs.declared.Choice.{Choice}
 
 -- a row: when it is given, and what it gives
 pub record Row : Type 0 where

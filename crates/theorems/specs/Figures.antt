@@ -13,8 +13,8 @@ use Rattle.projection.specs.Projection.{mamOf}
 use Rattle.eigen.specs.Spectrum.{spectrumOf, keptNumbers}
 use Rattle.eigen.specs.declared.Spectrum.{Spectrum}
 use Rattle.eigen.specs.declared.Spectrum.the-variants.{MatrixNotFinite, NumberNotFinite, Kept}
-use Rattle.dwtest.specs.Refusals.{passes}
-use Rattle.dwtest.specs.declared.Outcome.{Outcome}
+use Rattle.outcome.specs.Refusals.{passes}
+use Rattle.outcome.specs.declared.Outcome.{Outcome}
 use Rattle.theorems.specs.Document.{leftCoupled, keptOf, exactDue, couplingWasLeft, integralEnded}
 use Rattle.theorems.specs.Sheets.{Sheet, outcomeOf}
 

@@ -3,10 +3,10 @@ use Prim.Native.Nat.{ℕ, _*_}
 use mathlib.Core.Bool.{Bool}
 use mathlib.Core.List.{List}
 use lib.Ieee.{Float}
-use Rattle.design.specs.declared.Alternative.{Alternative}
+use Rattle.outcome.specs.declared.Alternative.{Alternative}
 use Rattle.dwtest.specs.Test.{testWith, touchedWith}
-use Rattle.dwtest.specs.declared.Outcome.{Outcome}
-use Rattle.dwtest.specs.declared.Choice.{Choice}
+use Rattle.outcome.specs.declared.Outcome.{Outcome}
+use Rattle.outcome.specs.declared.Choice.{Choice}
 
 -- how many numbers of matrix room n rows wanted: two whole matrices
 abbrev pub fullRoom : ℕ → ℕ

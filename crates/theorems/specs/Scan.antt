@@ -13,9 +13,10 @@ use lib.Ieee.Scale.{finite}
 use Rattle.floats.specs.Words.{_⊗_, _‼_, plusZero}
 use Rattle.autocorrelation.specs.Statistic.{durbinWatsonAnswer}
 use Rattle.autocorrelation.specs.Bound.{exact, all?, held?, numbersSized?, differencesSized?}
-use Rattle.design.specs.declared.Alternative.{Alternative}
-use Rattle.dwtest.specs.Test.{roomOf, testOf, touched, clearedOf}
-use Rattle.dwtest.specs.declared.Choice.{Choice}
+use Rattle.outcome.specs.declared.Alternative.{Alternative}
+use Rattle.outcome.specs.Rooms.{roomOf, partRoom, clearedOf}
+use Rattle.dwtest.specs.Test.{testOf, touched}
+use Rattle.outcome.specs.declared.Choice.{Choice}
 
 -- every residual with its sign turned; a NaN stays the one NaN
 abbrev pub turned : List Float → List Float
@@ -57,7 +58,7 @@ Alike e e' =
     (x : List Float) (k : ℕ) (a : Alternative) (c : Choice) (matrix parts : List Float)
     → (testOf e' x k a c (length matrix) (length parts) ≡ testOf e x k a c (length matrix) (length parts))
     × (clearedOf (touched e' x k c (length matrix) (length parts)) (roomOf (length e')) matrix ≡ clearedOf (touched e x k c (length matrix) (length parts)) (roomOf (length e)) matrix)
-    × (clearedOf (touched e' x k c (length matrix) (length parts)) 8004 parts ≡ clearedOf (touched e x k c (length matrix) (length parts)) 8004 parts)
+    × (clearedOf (touched e' x k c (length matrix) (length parts)) partRoom parts ≡ clearedOf (touched e x k c (length matrix) (length parts)) partRoom parts)
 
 -- THE SIGN: for every input, turning the sign of all residuals changes nothing, in the statistic or its refusals and places, and so in the test
 abbrev pub StatisticSignLaw : Type 0

@@ -5,12 +5,12 @@ use mathlib.Core.List.{List, [], _∷_}
 use lib.ListN.{replicate}
 use lib.Ieee.{Float, nan, inf}
 use Rattle.floats.specs.Words.{float, plusZero, one}
-use Rattle.design.specs.declared.Alternative.{Alternative}
-use Rattle.design.specs.declared.Alternative.the-variants.{Greater, Less, TwoSided}
+use Rattle.outcome.specs.declared.Alternative.{Alternative}
+use Rattle.outcome.specs.declared.Alternative.the-variants.{Greater, Less, TwoSided}
 use Rattle.dwtest.specs.Test.{testOf}
-use Rattle.dwtest.specs.declared.Outcome.{Outcome}
-use Rattle.dwtest.specs.declared.Choice.{Choice}
-use Rattle.dwtest.specs.declared.Choice.the-variants.{Default, Exact, Normal}
+use Rattle.outcome.specs.declared.Outcome.{Outcome}
+use Rattle.outcome.specs.declared.Choice.{Choice}
+use Rattle.outcome.specs.declared.Choice.the-variants.{Default, Exact, Normal}
 
 -- residuals, k columns in one run, the alternative, the choice, and the lengths of both rooms
 pub record Sheet : Type 0 where

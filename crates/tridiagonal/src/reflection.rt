@@ -13,8 +13,9 @@ ghost use lib.ListN.{length, drop};
 ghost use lib.Ieee.{lt, neg};
 ghost use Rattle.floats.specs.Words.{_⊗_, _‼_, plusZero};
 ghost use Rattle.floats.specs.Sums.{sumOf};
-ghost use Rattle.floats.specs.Tables.{table, triangle, half, withPart};
+ghost use Rattle.floats.specs.Tables.{table, half, withPart};
 ghost use Rattle.floats.specs.Matrix.{halfEntry, whole, halfOf};
+ghost use Rattle.floats.specs.Limits.{Square};
 ghost use Rattle.rows.specs.Terms.{sumFrom};
 ghost use Rattle.tridiagonal.specs.Reflection.{below, edge, block, imageOf, correctionOf, columnOf, reflectedEntry, reflected};
 
@@ -29,7 +30,7 @@ fn group_end(n: usize, i: usize) -> usize
 
 // Column c below the diagonal.
 fn copy_column(v: &mut [f64], a: &[f64], n: usize, c: usize)
-    requires { ⌜ (length (now v) ≡ below n c) × (length (now a) ≡ triangle n) × (n ≤ 256) × (c + 1 < n) ⌝ }
+    requires { ⌜ (length (now v) ≡ below n c) × (Square n (now a)) × (c + 1 < n) ⌝ }
     ensures { λ _. ⌜ now (v .exit) ≡ columnOf n c (whole n (now (a .entry))) ⌝ }
 {
     rows::half::copy_row(v, a, c, c + 1);
@@ -44,7 +45,7 @@ fn signed(norm: f64, first: f64) -> f64
 
 // Rows r to next - 1 of S, each times its number of v, added to the numbers before r.
 fn add_group(p: &mut [f64], a: &[f64], n: usize, c: usize, v: &[f64], r: usize, next: usize)
-    requires { ⌜ (length (now p) ≡ below n c) × (length (now v) ≡ below n c) × (length (now a) ≡ triangle n) × (n ≤ 256) × (c + 1 < n) × (r < next) × (next ≤ r + 8) × (next ≤ below n c) ⌝ }
+    requires { ⌜ (length (now p) ≡ below n c) × (length (now v) ≡ below n c) × (Square n (now a)) × (c + 1 < n) × (r < next) × (next ≤ r + 8) × (next ≤ below n c) ⌝ }
     ensures { λ _. ⌜ now (p .exit) ≡ table (λ i. sumFrom (now (p .entry) ‼ i) (next - r) (λ s. halfEntry (now (a .entry)) (c + 1 + (r + s)) (c + 1 + i) ⊗ now (v .entry) ‼ (r + s))) r ++ drop r (now (p .entry)) ⌝ }
 {
     let start = rows::half::place(c + 1 + r, c + 1);
@@ -53,7 +54,7 @@ fn add_group(p: &mut [f64], a: &[f64], n: usize, c: usize, v: &[f64], r: usize, 
 
 // Numbers r to next - 1 become the sums of the first `next` terms along their rows of S.
 fn sum_group(p: &mut [f64], a: &[f64], n: usize, c: usize, v: &[f64], r: usize, next: usize)
-    requires { ⌜ (length (now p) ≡ below n c) × (length (now v) ≡ below n c) × (length (now a) ≡ triangle n) × (n ≤ 256) × (c + 1 < n) × (r < next) × (next ≤ r + 8) × (next ≤ below n c) ⌝ }
+    requires { ⌜ (length (now p) ≡ below n c) × (length (now v) ≡ below n c) × (Square n (now a)) × (c + 1 < n) × (r < next) × (next ≤ r + 8) × (next ≤ below n c) ⌝ }
     ensures { λ _. ⌜ now (p .exit) ≡ withPart r next (now (p .entry)) (table (λ s. sumOf next (λ j. halfEntry (now (a .entry)) (c + 1 + (r + s)) (c + 1 + j) ⊗ now (v .entry) ‼ j)) (next - r)) ⌝ }
 {
     let start = rows::half::place(c + 1 + r, c + 1);
@@ -64,7 +65,7 @@ fn sum_group(p: &mut [f64], a: &[f64], n: usize, c: usize, v: &[f64], r: usize, 
 
 // S v, a group of rows at a time.
 fn image(p: &mut [f64], a: &[f64], n: usize, c: usize, v: &[f64])
-    requires { ⌜ (length (now p) ≡ below n c) × (length (now v) ≡ below n c) × (length (now a) ≡ triangle n) × (n ≤ 256) × (c + 1 < n) ⌝ }
+    requires { ⌜ (length (now p) ≡ below n c) × (length (now v) ≡ below n c) × (Square n (now a)) × (c + 1 < n) ⌝ }
     ensures { λ _. ⌜ now (p .exit) ≡ imageOf n c (whole n (now (a .entry))) (now (v .entry)) ⌝ }
 {
     let m = v.len();
@@ -89,7 +90,7 @@ fn correct(p: &mut [f64], v: &[f64], vv: f64)
 
 // S - (v q' + q v'), each row up to the diagonal.
 fn update(a: &mut [f64], n: usize, c: usize, v: &[f64], q: &[f64])
-    requires { ⌜ (length (now a) ≡ triangle n) × (n ≤ 256) × (length (now v) ≡ below n c) × (length (now q) ≡ below n c) × (c + 1 < n) ⌝ }
+    requires { ⌜ (Square n (now a)) × (length (now v) ≡ below n c) × (length (now q) ≡ below n c) × (c + 1 < n) ⌝ }
     ensures { λ _. ⌜ now (a .exit) ≡ half (λ i j. cond (ltb c i && ltb c j) (block n c (whole n (now (a .entry))) (now (v .entry)) (now (q .entry)) i j) (halfEntry (now (a .entry)) i j)) n ⌝ }
 {
     for t in 0..v.len() {
@@ -101,7 +102,7 @@ fn update(a: &mut [f64], n: usize, c: usize, v: &[f64], q: &[f64])
 
 // Column c below the diagonal becomes alpha, and then zeros.
 fn lead_column(a: &mut [f64], n: usize, c: usize, alpha: f64)
-    requires { ⌜ (length (now a) ≡ triangle n) × (n ≤ 256) × (c + 1 < n) ⌝ }
+    requires { ⌜ (Square n (now a)) × (c + 1 < n) ⌝ }
     ensures { λ _. ⌜ now (a .exit) ≡ half (λ i j. cond (eqb j c && ltb c i) (edge c alpha i) (halfEntry (now (a .entry)) i j)) n ⌝ }
 {
     for i in c + 2..n {
@@ -114,7 +115,7 @@ fn lead_column(a: &mut [f64], n: usize, c: usize, alpha: f64)
 
 // The matrix after the reflection whose column is `v` less alpha in its first number; `p` is room for a vector.
 fn turn(a: &mut [f64], n: usize, c: usize, alpha: f64, v: &[f64], vv: f64, p: &mut [f64])
-    requires { ⌜ (length (now a) ≡ triangle n) × (n ≤ 256) × (c + 1 < n) × (length (now v) ≡ below n c) × (length (now p) ≡ below n c) ⌝ }
+    requires { ⌜ (Square n (now a)) × (c + 1 < n) × (length (now v) ≡ below n c) × (length (now p) ≡ below n c) ⌝ }
     ensures { λ _. ⌜ now (a .exit) ≡ half (reflectedEntry n c (whole n (now (a .entry))) alpha (now (v .entry)) (correctionOf (now (v .entry)) (imageOf n c (whole n (now (a .entry))) (now (v .entry))) vv)) n ⌝ }
 {
     image(p, a, n, c, v);
@@ -125,7 +126,7 @@ fn turn(a: &mut [f64], n: usize, c: usize, alpha: f64, v: &[f64], vv: f64, p: &m
 
 // Reflection c; `v` and `p` are room for two vectors.
 pub fn reflect(a: &mut [f64], n: usize, c: usize, v: &mut [f64], p: &mut [f64])
-    requires { ⌜ (length (now a) ≡ triangle n) × (n ≤ 256) × (c + 1 < n) × (length (now v) ≡ below n c) × (length (now p) ≡ below n c) ⌝ }
+    requires { ⌜ (Square n (now a)) × (c + 1 < n) × (length (now v) ≡ below n c) × (length (now p) ≡ below n c) ⌝ }
     ensures { λ _. ⌜ now (a .exit) ≡ halfOf n (reflected n c (whole n (now (a .entry)))) ⌝ }
 {
     copy_column(v, a, n, c);

@@ -5,95 +5,88 @@
 // (0 greater, 1 less, 2 two-sided), the statistic's pattern; then the patterns of the columns' numbers.
 mod print;
 
-use design::Alternative;
-use design::Columns;
 use design::LawAnswer;
+use design::Matrix;
 use design::Pivots;
+use design::SheetSize;
 use elementary::NormalLaw;
 use floats::bits::float_at;
 use floats::bits::little_endian;
+use floats::limits::MAX_COLUMNS;
+use floats::limits::MAX_ROWS;
 use libc::STDIN_FILENO;
+use outcome::Asked;
+use outcome::p::normal_p;
+use outcome::refusals;
 use print::print_line;
 use print::print_matrix;
 use print::print_refusal;
-ghost use mathlib.Core.Path.{_≡_};
-ghost use Prim.Native.Nat.{_*_, _≤_, _<_};
+ghost use Prim.Native.Nat.{_*_, _≤_};
 ghost use lib.ListN.{length};
+ghost use Rattle.design.specs.Sheet.{Design};
 
 const MOST_CALLS: usize = 1_000_000;
 
-// What a call asks for beside its columns.
-struct Asked {
-    statistic: f64,
-    alternative: Alternative,
-}
-
-fn alternative_of(code: u64) -> Alternative {
-    if code == 0 {
-        return Alternative::Greater;
-    }
-    if code == 1 {
-        return Alternative::Less;
-    }
-    Alternative::TwoSided
-}
+// The numbers of a sheet with a row more than the largest.
+const MOST_NUMBERS: usize = MAX_COLUMNS * (MAX_ROWS + 1);
 
 fn normal_step(law: NormalLaw, asked: Asked) {
     let answer = design::check_law(law);
     match answer {
-        LawAnswer::NotFinite => print_refusal(13, 5),
-        LawAnswer::NotSpread => print_refusal(14, 0),
+        LawAnswer::NotFinite => print_refusal(refusals::not_finite(refusals::LAW)),
+        LawAnswer::NotSpread => print_refusal(refusals::not_spread()),
         LawAnswer::Usable(usable) => {
             let alternative = asked.alternative;
-            print_line(b"p", design::normal_p(usable, asked.statistic, alternative));
+            print_line(b"p", normal_p(usable, asked.statistic, alternative));
         }
     }
 }
 
-fn inverse_step(columns: &[f64], n: usize, k: usize, l: [[f64; 8]; 8], asked: Asked)
-    requires { ⌜ (n ≤ 256) × (k ≤ 8) × (k * n ≡ length (now columns)) ⌝ }
+fn inverse_step(columns: &[f64], size: SheetSize, l: Matrix, asked: Asked)
+    requires { ⌜ Design size (now columns) ⌝ }
 {
+    let k = size.columns;
     let inverse = design::inverse_of_factor(l, k);
-    if !design::inverse_is_finite(inverse, k) {
-        print_refusal(13, 1);
+    let finite = refusals::of_inverse(inverse, k);
+    if finite.number != 0 {
+        print_refusal(finite);
         return;
     }
     print_matrix(&inverse, k);
-    if n < 5 {
+    if size.rows < design::LEAST_FOR_LAW {
         print_line(b"p", 1.0);
         return;
     }
-    let law = design::normal_law(columns, n, k, inverse);
+    let law = design::normal_law(columns, size, inverse);
     print_line(b"mean", law.mean);
     print_line(b"variance", law.variance);
     normal_step(law, asked);
 }
 
-fn factor_step(columns: &[f64], n: usize, k: usize, asked: Asked)
-    requires { ⌜ (n ≤ 256) × (k ≤ 8) × (k * n ≡ length (now columns)) ⌝ }
+fn factor_step(columns: &[f64], size: SheetSize, asked: Asked)
+    requires { ⌜ Design size (now columns) ⌝ }
 {
-    if design::too_few_rows(n, k) {
-        print_refusal(10, 0);
+    let rows = refusals::of_rows(size);
+    if rows.number != 0 {
+        print_refusal(rows);
         return;
     }
-    let mut l = [[0.0f64; 8]; 8];
-    let pivots = design::factor(columns, n, k, &mut l);
+    let mut l = [[0.0f64; MAX_COLUMNS]; MAX_COLUMNS];
+    let pivots = design::factor(columns, size, &mut l);
     match pivots {
-        Pivots::Fails(i) => print_refusal(11, i),
-        Pivots::Hold => inverse_step(columns, n, k, l, asked),
+        Pivots::Fails(_) => print_refusal(refusals::of_pivots(pivots)),
+        Pivots::Hold => inverse_step(columns, size, l, asked),
     }
 }
 
 fn work_out(columns: &[f64], n: usize, k: usize, asked: Asked) {
     let found = design::check_columns(columns, n, k);
-    match found {
-        Columns::NoColumn => print_refusal(1, 0),
-        Columns::RowsOver => print_refusal(2, 0),
-        Columns::ColumnsOver => print_refusal(2, 1),
-        Columns::WrongLength => print_refusal(3, 0),
-        Columns::NotFinite(t) => print_refusal(4, t),
-        Columns::Sound => factor_step(columns, n, k, asked),
+    let sheet = refusals::of_columns(found);
+    if sheet.number != 0 {
+        print_refusal(sheet);
+        return;
     }
+    factor_step(columns, refusals::size_in(found), asked);
 }
 
 // The numbers whose patterns stand in `bytes`, at the start of `columns`.
@@ -106,10 +99,11 @@ fn read_numbers(bytes: &[u8], count: usize, columns: &mut [f64])
 }
 
 fn asked_in(head: &[u8; 40]) -> Asked {
-    let alternative = alternative_of(little_endian(head, 24, 8));
+    let alternative = outcome::alternative_of(little_endian(head, 24, 8));
     Asked {
         statistic: float_at(head, 32),
         alternative,
+        rows: little_endian(head, 0, 8) as usize,
     }
 }
 
@@ -131,11 +125,11 @@ fn call_of(head: &[u8; 40], count: usize, bytes: &mut [u8], columns: &mut [f64])
 // A call whose head was read; false where it has more numbers than any sheet, or the input ends.
 fn one_call(head: &[u8; 40]) -> bool {
     let count = little_endian(head, 16, 8) as usize;
-    if count > 2056 {
+    if count > MOST_NUMBERS {
         return false;
     }
-    let mut bytes = [0u8; 16448];
-    let mut columns = [0.0f64; 2056];
+    let mut bytes = [0u8; 8 * MOST_NUMBERS];
+    let mut columns = [0.0f64; MOST_NUMBERS];
     call_of(head, count, &mut bytes, &mut columns)
 }
 

@@ -1,7 +1,10 @@
 // Lines of the answer.
+use design::Matrix;
 use floats::bits::bits_of;
 use libc::STDOUT_FILENO;
+use outcome::Refusal;
 ghost use Prim.Native.Nat.{_≤_};
+ghost use Rattle.floats.specs.Limits.{maxColumns};
 
 fn print_bits(x: f64) {
     io::write_all(STDOUT_FILENO, b" ");
@@ -14,8 +17,8 @@ pub fn print_line(name: &[u8], x: f64) {
     io::write_all(STDOUT_FILENO, b"\n");
 }
 
-pub fn print_matrix(a: &[[f64; 8]; 8], k: usize)
-    requires { ⌜ k ≤ 8 ⌝ }
+pub fn print_matrix(a: &Matrix, k: usize)
+    requires { ⌜ k ≤ maxColumns ⌝ }
 {
     io::write_all(STDOUT_FILENO, b"inverse");
     for i in 0..k {
@@ -26,11 +29,11 @@ pub fn print_matrix(a: &[[f64; 8]; 8], k: usize)
     io::write_all(STDOUT_FILENO, b"\n");
 }
 
-pub fn print_refusal(number: usize, place: usize) {
+pub fn print_refusal(why: Refusal) {
     io::write_all(STDOUT_FILENO, b"refusal ");
-    io::print_decimal(STDOUT_FILENO, number as u64);
+    io::print_decimal(STDOUT_FILENO, why.number as u64);
     io::write_all(STDOUT_FILENO, b" ");
-    io::print_decimal(STDOUT_FILENO, place as u64);
+    io::print_decimal(STDOUT_FILENO, why.place as u64);
     io::write_all(STDOUT_FILENO, b"\n");
 }
 

@@ -7,11 +7,12 @@
 mod print;
 mod rooms;
 
-use design::Alternative;
-use dwtest::Choice;
 use floats::bits::float_at;
 use floats::bits::little_endian;
+use imhof::PART_ROOM;
 use libc::STDIN_FILENO;
+use outcome::alternative_of;
+use outcome::choice_of;
 ghost use mathlib.Core.Path.{_≡_};
 ghost use Prim.Native.Nat.{_+_, _*_, _≤_, _<_};
 ghost use lib.ListN.{length};
@@ -19,14 +20,6 @@ ghost use lib.ListN.{length};
 const MOST_CALLS: usize = 1_000_000;
 
 const MOST_NUMBERS: usize = 4096;
-
-fn alternative_of(code: u64) -> Alternative {
-    fields::alternative_of((code % 256) as u8)
-}
-
-fn choice_of(code: u64) -> Choice {
-    fields::choice_of((code % 256) as u8)
-}
 
 // The numbers whose patterns stand in `bytes`, at the start of `run`.
 fn read_numbers(bytes: &[u8], count: usize, run: &mut [f64])
@@ -47,28 +40,37 @@ fn test(i: usize, head: &[u8; 56], run: &[f64], n: usize, matrix: &mut [f64], pa
         &run[..n],
         &run[n..],
         little_endian(head, 16, 8) as usize,
-        alternative_of(little_endian(head, 24, 8)),
-        choice_of(little_endian(head, 32, 8)),
+        alternative_of(little_endian(head, 24, 1)),
+        choice_of(little_endian(head, 32, 1)),
         matrix,
         parts,
     );
     print::print_outcome(i, outcome);
-    print::print_rooms(rooms::held(matrix, n * (n + 1)), rooms::held(parts, 8004));
+    print::print_rooms(
+        rooms::held(matrix, n * (n + 1)),
+        rooms::held(parts, PART_ROOM),
+    );
 }
 
-// A call of n residuals and m numbers of columns, with room for them; false where the input ends.
+// A call whose head was read, with room for its numbers; false where it asks for more of them than there are, or the input ends.
 fn call_of(
     i: usize,
     head: &[u8; 56],
-    n: usize,
-    m: usize,
     bytes: &mut [u8],
     run: &mut [f64],
     matrix: &mut [f64],
     parts: &mut [f64],
 ) -> bool
-    requires { ⌜ (n + m ≤ 4096) × (8 * (n + m) ≤ length (now bytes)) × (n + m ≤ length (now run)) ⌝ }
+    requires { ⌜ (32768 ≤ length (now bytes)) × (4096 ≤ length (now run)) ⌝ }
 {
+    let n = little_endian(head, 0, 8) as usize;
+    let m = little_endian(head, 8, 8) as usize;
+    if n > MOST_NUMBERS {
+        return false;
+    }
+    if m > MOST_NUMBERS - n {
+        return false;
+    }
     let count = n + m;
     let size = 8 * count;
     if io::read_full(STDIN_FILENO, &mut bytes[..size]) != size {
@@ -79,31 +81,21 @@ fn call_of(
     true
 }
 
-// A call whose head was read; false where it asks for more than there is, or the input ends.
+// The same, in as much of the rooms as it asks for; false too where there is less.
 fn one_call(i: usize, head: &[u8; 56], matrix: &mut [f64], parts: &mut [f64]) -> bool {
-    let n = little_endian(head, 0, 8) as usize;
-    let m = little_endian(head, 8, 8) as usize;
     let a = little_endian(head, 40, 8) as usize;
     let b = little_endian(head, 48, 8) as usize;
-    if n > MOST_NUMBERS {
-        return false;
-    }
-    if m > MOST_NUMBERS - n {
-        return false;
-    }
     if a > matrix.len() {
         return false;
     }
     if b > parts.len() {
         return false;
     }
-    let mut bytes = [0u8; 32_768];
-    let mut run = [0.0f64; 4096];
+    let mut bytes = [0u8; 8 * MOST_NUMBERS];
+    let mut run = [0.0f64; MOST_NUMBERS];
     call_of(
         i,
         head,
-        n,
-        m,
         &mut bytes,
         &mut run,
         &mut matrix[..a],

@@ -1,9 +1,9 @@
 // The line of a call.
-use design::Alternative;
-use dwtest::Outcome;
 use floats::bits::bits_of;
 use libc::STDOUT_FILENO;
-use sheet::lines::Fields;
+use lines::LONGEST;
+use outcome::Alternative;
+use outcome::Outcome;
 
 fn code_of(alternative: Alternative) -> u64 {
     match alternative {
@@ -24,9 +24,9 @@ fn print_pattern(x: f64) {
 }
 
 // The sheet program's line, without its newline.
-fn print_fields(fields: Fields) {
-    let mut out = [0u8; 244];
-    let n = sheet::lines::write_line(fields, &mut out);
+fn print_fields(i: usize, o: Outcome) {
+    let mut out = [0u8; LONGEST];
+    let n = lines::write_line(i, o, &mut out);
     if n > 0 {
         let end = n - 1;
         io::write_all(STDOUT_FILENO, &out[..end]);
@@ -34,7 +34,7 @@ fn print_fields(fields: Fields) {
 }
 
 pub fn print_outcome(i: usize, o: Outcome) {
-    print_fields(fields::fields_of(i, o));
+    print_fields(i, o);
     let law = o.law;
     let alternative = o.alternative;
     print_word(o.n as u64);

@@ -1,8 +1,10 @@
 // The two rooms: what they are filled with before a call, and what they hold after it.
 use floats::bits::bits_of;
+use imhof::PART_ROOM;
 ghost use mathlib.Core.Path.{_≡_};
-ghost use Prim.Native.Nat.{_≤_};
+ghost use Prim.Native.Nat.{_+_, _≤_};
 ghost use lib.ListN.{length};
+ghost use Rattle.imhof.specs.Room.{partRoom};
 
 // For 256 rows 2n² numbers, nearly twice what they want, and eight more.
 pub fn matrix_room() -> [f64; 131_080]
@@ -11,11 +13,11 @@ pub fn matrix_room() -> [f64; 131_080]
     [0.0; 131_080]
 }
 
-// Room for 2,001 parts, and eight numbers more.
-pub fn part_room() -> [f64; 8_012]
-    ensures { λ r. ⌜ 8012 ≡ length r ⌝ }
+// Room for as many parts as there can be, and eight numbers more.
+pub fn part_room() -> [f64; PART_ROOM + 8]
+    ensures { λ r. ⌜ partRoom + 8 ≡ length r ⌝ }
 {
-    [0.0; 8_012]
+    [0.0; PART_ROOM + 8]
 }
 
 // 1, 2, 3, ..: no number is +0, and no two are the same.

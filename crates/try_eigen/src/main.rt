@@ -6,10 +6,15 @@
 // turn and else 0, and the eigenvalues' patterns. The room is not cleared between designs.
 mod print;
 
+use design::Matrix;
 use design::Pivots;
+use design::SheetSize;
+use design::SizeAnswer;
 use eigen::Spectrum;
 use floats::bits::float_at;
 use floats::bits::little_endian;
+use floats::limits::MAX_COLUMNS;
+use floats::limits::MAX_ROWS;
 use libc::STDIN_FILENO;
 use print::print_cut;
 use print::print_kept;
@@ -17,21 +22,23 @@ use print::print_refusal;
 ghost use mathlib.Core.Path.{_≡_};
 ghost use Prim.Native.Nat.{_+_, _*_, _≤_, _<_};
 ghost use lib.ListN.{length};
+ghost use Rattle.floats.specs.Limits.{maxRows, maxColumns, matrixRoom};
+ghost use Rattle.design.specs.Sheet.{Design};
 
 const MOST_DESIGNS: usize = 1_000_000;
 
-fn spectrum_of(
-    i: usize,
-    columns: &[f64],
-    n: usize,
-    k: usize,
-    inverse: [[f64; 8]; 8],
-    room: &mut [f64],
-)
-    requires { ⌜ (n ≤ 256) × (k ≤ 8) × (k ≤ n) × (k * n ≡ length (now columns)) × (n * (n + 1) ≤ length (now room)) ⌝ }
+// The bytes of an inverse, which come first, and the numbers and the room of the largest sheet.
+const INVERSE_BYTES: usize = 8 * MAX_COLUMNS * MAX_COLUMNS;
+
+const MOST_NUMBERS: usize = MAX_COLUMNS * MAX_ROWS;
+
+const MATRIX_ROOM: usize = MAX_ROWS * (MAX_ROWS + 1);
+
+fn spectrum_of(i: usize, columns: &[f64], size: SheetSize, inverse: Matrix, room: &mut [f64])
+    requires { ⌜ (Design size (now columns)) × (size .columns ≤ size .rows) × (matrixRoom (size .rows) ≤ length (now room)) ⌝ }
 {
-    let mut kept = [0.0f64; 256];
-    let spectrum = eigen::ma_eigenvalues(columns, n, k, inverse, room, &mut kept);
+    let mut kept = [0.0f64; MAX_ROWS];
+    let spectrum = eigen::ma_eigenvalues(columns, size, inverse, room, &mut kept);
     match spectrum {
         Spectrum::MatrixNotFinite => print_refusal(i, 13, 2),
         Spectrum::NumberNotFinite => print_refusal(i, 13, 3),
@@ -40,17 +47,18 @@ fn spectrum_of(
 }
 
 // The spectrum by the inverse of X'X, or the refusal that comes before it.
-fn spectrum_by_columns(i: usize, columns: &[f64], n: usize, k: usize, room: &mut [f64])
-    requires { ⌜ (n ≤ 256) × (k ≤ 8) × (k ≤ n) × (k * n ≡ length (now columns)) × (n * (n + 1) ≤ length (now room)) ⌝ }
+fn spectrum_by_columns(i: usize, columns: &[f64], size: SheetSize, room: &mut [f64])
+    requires { ⌜ (Design size (now columns)) × (size .columns ≤ size .rows) × (matrixRoom (size .rows) ≤ length (now room)) ⌝ }
 {
-    let mut l = [[0.0f64; 8]; 8];
-    let pivots = design::factor(columns, n, k, &mut l);
+    let k = size.columns;
+    let mut l = [[0.0f64; MAX_COLUMNS]; MAX_COLUMNS];
+    let pivots = design::factor(columns, size, &mut l);
     match pivots {
         Pivots::Fails(j) => print_refusal(i, 11, j),
         Pivots::Hold => {
             let inverse = design::inverse_of_factor(l, k);
             if design::inverse_is_finite(inverse, k) {
-                spectrum_of(i, columns, n, k, inverse, room);
+                spectrum_of(i, columns, size, inverse, room);
             } else {
                 print_refusal(i, 13, 1);
             }
@@ -59,21 +67,21 @@ fn spectrum_by_columns(i: usize, columns: &[f64], n: usize, k: usize, room: &mut
 }
 
 // Row i of the inverse that is given.
-fn row_in(bytes: &[u8], i: usize) -> [f64; 8]
-    requires { ⌜ (i < 8) × (512 ≤ length (now bytes)) ⌝ }
+fn row_in(bytes: &[u8], i: usize) -> [f64; MAX_COLUMNS]
+    requires { ⌜ (i < maxColumns) × (8 * (maxColumns * maxColumns) ≤ length (now bytes)) ⌝ }
 {
-    let mut row = [0.0f64; 8];
-    for j in 0..8usize {
-        row[j] = float_at(bytes, 64 * i + 8 * j);
+    let mut row = [0.0f64; MAX_COLUMNS];
+    for j in 0..MAX_COLUMNS {
+        row[j] = float_at(bytes, 8 * (MAX_COLUMNS * i + j));
     }
     row
 }
 
-fn inverse_in(bytes: &[u8]) -> [[f64; 8]; 8]
-    requires { ⌜ 512 ≤ length (now bytes) ⌝ }
+fn inverse_in(bytes: &[u8]) -> Matrix
+    requires { ⌜ 8 * (maxColumns * maxColumns) ≤ length (now bytes) ⌝ }
 {
-    let mut inverse = [[0.0f64; 8]; 8];
-    for i in 0..8usize {
+    let mut inverse = [[0.0f64; MAX_COLUMNS]; MAX_COLUMNS];
+    for i in 0..MAX_COLUMNS {
         inverse[i] = row_in(bytes, i);
     }
     inverse
@@ -81,61 +89,58 @@ fn inverse_in(bytes: &[u8]) -> [[f64; 8]; 8]
 
 // The columns, whose patterns stand behind the inverse, at the start of `run`.
 fn read_columns(bytes: &[u8], count: usize, run: &mut [f64])
-    requires { ⌜ (8 * count + 512 ≤ length (now bytes)) × (count ≤ length (now run)) ⌝ }
+    requires { ⌜ (8 * (maxColumns * maxColumns) + 8 * count ≤ length (now bytes)) × (count ≤ length (now run)) ⌝ }
 {
     for t in 0..count {
-        run[t] = float_at(bytes, 512 + 8 * t);
+        run[t] = float_at(bytes, INVERSE_BYTES + 8 * t);
     }
 }
 
-// A design of `count` numbers, with room for them; false where the input ends.
+// A design of a size that fits, with room for its numbers; false where the input ends.
 fn design_of(
     i: usize,
     head: &[u8; 24],
-    n: usize,
-    k: usize,
-    count: usize,
+    size: SheetSize,
     bytes: &mut [u8],
     run: &mut [f64],
     room: &mut [f64],
 ) -> bool
-    requires { ⌜ (n ≤ 256) × (k ≤ 8) × (k ≤ n) × (count ≡ k * n) × (count ≤ 2048) × (8 * count + 512 ≤ length (now bytes)) × (count ≤ length (now run)) × (n * (n + 1) ≤ length (now room)) ⌝ }
+    requires { ⌜ (size .rows ≤ maxRows) × (size .columns ≤ maxColumns) × (size .columns ≤ size .rows) × (8 * (maxColumns * maxColumns) + 8 * (size .columns * size .rows) ≤ length (now bytes)) × (size .columns * size .rows ≤ length (now run)) × (matrixRoom (size .rows) ≤ length (now room)) ⌝ }
 {
-    let size = 8 * count + 512;
-    if io::read_full(STDIN_FILENO, &mut bytes[..size]) != size {
+    let count = size.columns * size.rows;
+    let all = INVERSE_BYTES + 8 * count;
+    if io::read_full(STDIN_FILENO, &mut bytes[..all]) != all {
         return false;
     }
     read_columns(bytes, count, run);
     if little_endian(head, 16, 8) == 0 {
-        spectrum_by_columns(i, &run[..count], n, k, room);
+        spectrum_by_columns(i, &run[..count], size, room);
     } else {
-        spectrum_of(i, &run[..count], n, k, inverse_in(bytes), room);
+        spectrum_of(i, &run[..count], size, inverse_in(bytes), room);
     }
     true
 }
 
 // A design whose head was read; false where it is larger than any sheet's, has more columns than rows, or the input ends.
 fn one_design(i: usize, head: &[u8; 24], room: &mut [f64]) -> bool
-    requires { ⌜ 65792 ≤ length (now room) ⌝ }
+    requires { ⌜ matrixRoom maxRows ≤ length (now room) ⌝ }
 {
     let n = little_endian(head, 0, 8) as usize;
     let k = little_endian(head, 8, 8) as usize;
-    if n > 256 {
+    let answer = SheetSize::new(n, k);
+    let SizeAnswer::Fits(size) = answer else {
+        return false;
+    };
+    if size.columns > size.rows {
         return false;
     }
-    if k > 8 {
-        return false;
-    }
-    if k > n {
-        return false;
-    }
-    let mut bytes = [0u8; 16_896];
-    let mut run = [0.0f64; 2048];
-    design_of(i, head, n, k, k * n, &mut bytes, &mut run, room)
+    let mut bytes = [0u8; INVERSE_BYTES + 8 * MOST_NUMBERS];
+    let mut run = [0.0f64; MOST_NUMBERS];
+    design_of(i, head, size, &mut bytes, &mut run, room)
 }
 
 fn designs(room: &mut [f64])
-    requires { ⌜ 65792 ≤ length (now room) ⌝ }
+    requires { ⌜ matrixRoom maxRows ≤ length (now room) ⌝ }
 {
     for i in 0..MOST_DESIGNS {
         let mut head = [0u8; 24];
@@ -149,11 +154,10 @@ fn designs(room: &mut [f64])
     }
 }
 
-// Room for 256 rows.
-fn matrix_room() -> [f64; 65_792]
-    ensures { λ r. ⌜ 65792 ≡ length r ⌝ }
+fn matrix_room() -> [f64; MATRIX_ROOM]
+    ensures { λ r. ⌜ matrixRoom maxRows ≡ length r ⌝ }
 {
-    [0.0; 65_792]
+    [0.0; MATRIX_ROOM]
 }
 
 fn main() {

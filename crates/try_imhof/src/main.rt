@@ -1,14 +1,17 @@
 // Replays the sets of measure/imhof/stored: Imhof's probability, and the adaptive step at ends of its own, against the answers of the
 // oracle's first build. Prints each set that ends otherwise, and the counts. The comparison with many sets, measure/imhof/compare, asks it too.
 // A set is 9 words of 8 bytes, the least byte first: what is asked (0 the probability, 1 the integral between two ends), how many numbers
-// follow, 256 at most, the statistic or the low end, the high end; then how it must end. Last the numbers: eigenvalues or weights.
+// follow, MAX_ROWS at most, the statistic or the low end, the high end; then how it must end. Last the numbers: eigenvalues or weights.
 ghost use Prim.Native.Nat.{_+_, _*_, _^_, _<_, _≤_};
 ghost use lib.ListN.{length};
+ghost use Rattle.floats.specs.Limits.{maxRows};
 use floats::bits::bits_of;
 use floats::bits::float_at;
 use floats::bits::little_endian;
+use floats::limits::MAX_ROWS;
 use floats::tally::Tally;
 use imhof::Exact;
+use imhof::PART_ROOM;
 use imhof::Quadrature;
 use libc::STDIN_FILENO;
 use libc::STDOUT_FILENO;
@@ -67,9 +70,9 @@ fn of_integral(answer: Quadrature) -> Ending {
 }
 
 fn ending_of(head: &[u8; 72], numbers: &[f64]) -> Ending
-    requires { ⌜ length (now numbers) ≤ 256 ⌝ }
+    requires { ⌜ length (now numbers) ≤ maxRows ⌝ }
 {
-    let mut parts = [0.0f64; 8004];
+    let mut parts = [0.0f64; PART_ROOM];
     let from = float_at(head, 16);
     if little_endian(head, 0, 8) == 0 {
         return of_probability(imhof::prob_below_zero(numbers, from, &mut parts));
@@ -197,7 +200,7 @@ fn print_score(sets: usize, s: Score) {
 
 // Whether set `i`, whose head was read, ends as stored. The rooms are as long as the longest set.
 fn replay(i: usize, head: &[u8; 72], count: usize, bytes: &mut [u8], numbers: &mut [f64]) -> bool
-    requires { ⌜ (count ≤ 256) × (8 * count ≤ length (now bytes)) × (count ≤ length (now numbers)) ⌝ }
+    requires { ⌜ (count ≤ maxRows) × (8 * count ≤ length (now bytes)) × (count ≤ length (now numbers)) ⌝ }
 {
     let size = 8 * count;
     if io::read_full(STDIN_FILENO, &mut bytes[..size]) != size {
@@ -215,14 +218,14 @@ fn replay(i: usize, head: &[u8; 72], count: usize, bytes: &mut [u8], numbers: &m
 }
 
 fn replay_set(i: usize, head: &[u8; 72]) -> bool {
-    let count = little_endian(head, 8, 8);
-    if count > 256 {
+    let count = little_endian(head, 8, 8) as usize;
+    if count > MAX_ROWS {
         io::write_all(STDOUT_FILENO, b"a set is too long\n");
         return false;
     }
-    let mut bytes = [0u8; 2048];
-    let mut numbers = [0.0f64; 256];
-    replay(i, head, count as usize, &mut bytes, &mut numbers)
+    let mut bytes = [0u8; 8 * MAX_ROWS];
+    let mut numbers = [0.0f64; MAX_ROWS];
+    replay(i, head, count, &mut bytes, &mut numbers)
 }
 
 fn main() {

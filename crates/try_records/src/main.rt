@@ -3,22 +3,40 @@
 // the form, the refusal's number and place, the bits of the integral and of the summed error, bisections and evaluations.
 use autocorrelation::Statistic;
 use design::Columns;
+use design::Matrix;
 use design::Pivots;
+use design::SheetSize;
 use eigen::Spectrum;
 use floats::bits::bits_of;
+use floats::limits::MAX_COLUMNS;
+use floats::limits::MAX_ROWS;
+use imhof::PART_ROOM;
 use imhof::Quadrature;
 use libc::STDIN_FILENO;
 use libc::STDOUT_FILENO;
+use lines::LONGEST;
+use outcome::Refusal;
+use outcome::refusals::INTEGRAL;
+use outcome::refusals::not_finite;
+use outcome::refusals::of_rooms;
 use records::Answer;
 use sheet::file::Entry;
 use sheet::file::FileCheck;
 use sheet::file::FileRefusal;
+use sheet::file::LARGEST;
+use sheet::file::MOST_NUMBERS;
 use sheet::file::Next;
 ghost use mathlib.Core.Path.{_≡_};
-ghost use Prim.Native.Nat.{_*_, _<_, _≤_};
+ghost use Prim.Native.Nat.{_+_, _*_, _<_, _≤_};
 ghost use lib.ListN.{length};
-ghost use Rattle.sheet.specs.Contents.{bodyEnd};
+ghost use Rattle.design.specs.Sheet.{Design};
+ghost use Rattle.sheet.specs.Contents.{largestFile, mostNumbers, bodyEnd};
 ghost use Rattle.sheet.specs.Tiling.{Tiled};
+
+// Up to so many rows, as the sheet program.
+const ROWS: usize = 64;
+
+const MATRIX_ROOM: usize = ROWS * (ROWS + 1);
 
 fn print_number(x: u64) {
     io::write_all(STDOUT_FILENO, b" ");
@@ -30,23 +48,23 @@ fn print_bits(x: f64) {
     io::print_hex(STDOUT_FILENO, bits_of(x), 16);
 }
 
-fn print_refusal(number: u64, place: u64) {
-    print_number(number);
-    print_number(place);
+fn print_refusal(why: Refusal) {
+    print_number(why.number as u64);
+    print_number(why.place as u64);
     print_bits(0.0);
     print_bits(0.0);
     io::write_all(STDOUT_FILENO, b" 0 0\n");
 }
 
 fn print_file_refusal(refusal: FileRefusal) {
-    let mut out = [0u8; 244];
-    let n = sheet::lines::write_file_refusal(refusal, &mut out);
+    let mut out = [0u8; LONGEST];
+    let n = lines::write_file_refusal(refusal, &mut out);
     io::write_all(STDOUT_FILENO, &out[..n]);
 }
 
 fn print_quadrature(q: Quadrature) {
     match q {
-        Quadrature::Broken => print_refusal(13, 4),
+        Quadrature::Broken => print_refusal(not_finite(INTEGRAL)),
         Quadrature::Sum(i) => {
             let work = i.tally;
             io::write_all(STDOUT_FILENO, b" 0 0");
@@ -61,7 +79,8 @@ fn print_quadrature(q: Quadrature) {
 
 fn print_answer(a: Answer) {
     match a {
-        Answer::RoomShort => print_refusal(12, 2),
+        // no rows want no matrix room, and part room too
+        Answer::RoomShort => print_refusal(of_rooms(0, 0, 0)),
         Answer::Found(q) => print_quadrature(q),
     }
 }
@@ -74,7 +93,7 @@ fn print_head(name: &[u8], i: usize, form: &[u8]) {
 
 // Both forms on one range.
 fn try_range(name: &[u8], i: usize, weights: &[f64], lo: f64, hi: f64) {
-    let mut parts = [0.0f64; 8004];
+    let mut parts = [0.0f64; PART_ROOM];
     print_head(name, i, b" four");
     print_quadrature(imhof::adaptive::integrate(weights, lo, hi, &mut parts));
     print_head(name, i, b" records");
@@ -86,7 +105,7 @@ fn try_weights(i: usize, run: &[f64], m: usize) {
     if m > run.len() {
         return;
     }
-    if m > 256 {
+    if m > MAX_ROWS {
         return;
     }
     let lo = imhof::range::low_end(&run[..m]);
@@ -98,54 +117,59 @@ fn try_eigenvalues(i: usize, kept: &[f64], count: usize, d: f64) {
     if count > kept.len() {
         return;
     }
-    if count > 256 {
+    if count > MAX_ROWS {
         return;
     }
-    let mut weights = [0.0f64; 256];
+    let mut weights = [0.0f64; MAX_ROWS];
     let m = imhof::weights::shift(&kept[..count], d, &mut weights);
     try_weights(i, &weights, m);
 }
 
-fn try_spectrum(i: usize, columns: &[f64], n: usize, k: usize, inverse: [[f64; 8]; 8], d: f64)
-    requires { ⌜ (n ≤ 64) × (k ≤ 8) × (k ≤ n) × (k * n ≡ length (now columns)) ⌝ }
+fn try_spectrum(i: usize, columns: &[f64], size: SheetSize, inverse: Matrix, d: f64)
+    requires { ⌜ (size .rows ≤ 64) × (size .columns ≤ size .rows) × Design size (now columns) ⌝ }
 {
-    let mut room = [0.0f64; 4160];
-    let mut kept = [0.0f64; 256];
-    let spectrum = eigen::ma_eigenvalues(columns, n, k, inverse, &mut room, &mut kept);
+    let mut room = [0.0f64; MATRIX_ROOM];
+    let mut kept = [0.0f64; MAX_ROWS];
+    let spectrum = eigen::ma_eigenvalues(columns, size, inverse, &mut room, &mut kept);
     if let Spectrum::Kept(s) = spectrum {
         try_eigenvalues(i, &kept, s.count, d);
     }
 }
 
-// Up to 64 rows, as the sheet program.
-fn try_sound(i: usize, columns: &[f64], n: usize, k: usize, d: f64)
-    requires { ⌜ (k ≤ 8) × (k * n ≡ length (now columns)) ⌝ }
+fn try_sound(i: usize, columns: &[f64], size: SheetSize, d: f64)
+    requires { ⌜ Design size (now columns) ⌝ }
 {
-    if n > 64 {
+    if size.rows > ROWS {
         return;
     }
-    if k >= n {
+    if size.columns >= size.rows {
         return;
     }
-    let mut l = [[0.0f64; 8]; 8];
-    let pivots = design::factor(columns, n, k, &mut l);
+    let mut l = [[0.0f64; MAX_COLUMNS]; MAX_COLUMNS];
+    let pivots = design::factor(columns, size, &mut l);
     if let Pivots::Hold = pivots {
-        try_spectrum(i, columns, n, k, design::inverse_of_factor(l, k), d);
+        try_spectrum(
+            i,
+            columns,
+            size,
+            design::inverse_of_factor(l, size.columns),
+            d,
+        );
     }
 }
 
 fn try_design(i: usize, columns: &[f64], n: usize, k: usize, d: f64) {
     let found = design::check_columns(columns, n, k);
-    if let Columns::Sound = found {
-        try_sound(i, columns, n, k, d);
+    if let Columns::Sound(size) = found {
+        try_sound(i, columns, size, d);
     }
 }
 
 fn try_entry(file: &[u8], i: usize, e: Entry)
-    requires { ⌜ (bodyEnd e ≤ length (now file)) × (e .rows ≤ 8192) × (e .rows * e .columns ≤ 8192) ⌝ }
+    requires { ⌜ (bodyEnd e ≤ length (now file)) × (e .rows ≤ mostNumbers) × (e .rows * e .columns ≤ mostNumbers) ⌝ }
 {
-    let mut residuals = [0.0f64; 8192];
-    let mut columns = [0.0f64; 8192];
+    let mut residuals = [0.0f64; MOST_NUMBERS];
+    let mut columns = [0.0f64; MOST_NUMBERS];
     let n = sheet::file::read_residuals(file, e, &mut residuals);
     let m = sheet::file::read_columns(file, e, &mut columns);
     let statistic = autocorrelation::durbin_watson(&residuals[..n]);
@@ -172,10 +196,10 @@ fn try_file(file: &[u8]) {
 }
 
 // The largest file, and one byte more.
-fn room() -> [u8; 65_537]
-    ensures { λ r. ⌜ 65537 ≡ length r ⌝ }
+fn room() -> [u8; LARGEST + 1]
+    ensures { λ r. ⌜ largestFile + 1 ≡ length r ⌝ }
 {
-    [0; 65_537]
+    [0; LARGEST + 1]
 }
 
 fn try_input(file: &mut [u8]) {

@@ -1,21 +1,22 @@
 // Reads sheet files one after another from standard input and prints what the crate `sheet` makes of each: its label with the file
-// refusal's line, or with one line an entry, in the fields of a sheet's line: index, alternative, choice, digests of the residuals and
-// of the columns, rows, columns, offset, positions byte, digest of the positions, then zeros. The input is made by measure/sheet/stored:
-// for each file its length and how many of its bytes are given (4 bytes each, the least first; those not given are zeros), a label of 24
-// bytes, and the bytes given.
+// refusal's line, or with one line an entry: index, alternative, choice, digests of the residuals and of the columns, rows, columns, offset,
+// positions byte, digest of the positions. The input is made by measure/sheet/stored: for each file its length and how many of its bytes
+// are given (4 bytes each, the least first; those not given are zeros), a label of 24 bytes, and the bytes given.
 use floats::bits::bits_of;
 use floats::bits::little_endian;
 use libc::STDIN_FILENO;
 use libc::STDOUT_FILENO;
+use lines::LONGEST;
 use sheet::file::Entry;
 use sheet::file::FileCheck;
 use sheet::file::FileRefusal;
+use sheet::file::LARGEST;
+use sheet::file::MOST_NUMBERS;
 use sheet::file::Next;
-use sheet::lines::Fields;
 ghost use mathlib.Core.Path.{_≡_};
 ghost use Prim.Native.Nat.{_+_, _*_, _<_, _≤_};
 ghost use lib.ListN.{length};
-ghost use Rattle.sheet.specs.Contents.{bodyEnd};
+ghost use Rattle.sheet.specs.Contents.{largestFile, mostNumbers, bodyEnd};
 ghost use Rattle.sheet.specs.Tiling.{Tiled};
 
 // A digest is a word that depends on each pattern and on their order: three times the word of those before, and the pattern.
@@ -44,45 +45,41 @@ fn digest_positions(file: &[u8], e: Entry) -> u64 {
     word
 }
 
-fn print_line(label: &[u8], fields: Fields) {
-    let mut out = [0u8; 244];
-    let n = sheet::lines::write_line(fields, &mut out);
+fn print_refusal(label: &[u8], refusal: FileRefusal) {
+    let mut out = [0u8; LONGEST];
+    let n = lines::write_file_refusal(refusal, &mut out);
     io::write_all(STDOUT_FILENO, label);
     io::write_all(STDOUT_FILENO, &out[..n]);
 }
 
-fn print_refusal(label: &[u8], refusal: FileRefusal) {
-    let mut out = [0u8; 244];
-    let n = sheet::lines::write_file_refusal(refusal, &mut out);
+fn print_words(label: &[u8], words: &[u64], patterns: &[usize]) {
+    let mut out = [0u8; LONGEST];
+    let n = lines::write_words(words, patterns, &mut out);
     io::write_all(STDOUT_FILENO, label);
     io::write_all(STDOUT_FILENO, &out[..n]);
 }
 
 fn print_entry(label: &[u8], file: &[u8], i: usize, e: Entry)
-    requires { ⌜ (bodyEnd e ≤ length (now file)) × (e .rows ≤ 8192) × (e .rows * e .columns ≤ 8192) ⌝ }
+    requires { ⌜ (bodyEnd e ≤ length (now file)) × (e .rows ≤ mostNumbers) × (e .rows * e .columns ≤ mostNumbers) ⌝ }
 {
-    let mut run = [0.0f64; 8192];
+    let mut run = [0.0f64; MOST_NUMBERS];
     let n = sheet::file::read_residuals(file, e, &mut run);
     let residuals = digest(&run[..n]);
     let m = sheet::file::read_columns(file, e, &mut run);
     let columns = digest(&run[..m]);
-    print_line(
-        label,
-        Fields {
-            index: i as u64,
-            refusal: e.alternative as u64,
-            place: e.choice as u64,
-            statistic_bits: residuals,
-            p_bits: columns,
-            path: e.rows as u64,
-            fallback: e.columns as u64,
-            kept: e.offset as u64,
-            sweeps: e.positions as u64,
-            bisections: digest_positions(file, e),
-            evaluations: 0,
-            settled: 0,
-        },
-    );
+    let words = [
+        i as u64,
+        e.alternative as u64,
+        e.choice as u64,
+        residuals,
+        columns,
+        e.rows as u64,
+        e.columns as u64,
+        e.offset as u64,
+        e.positions as u64,
+        digest_positions(file, e),
+    ];
+    print_words(label, &words, &[3, 4]);
 }
 
 fn print_entries(label: &[u8], file: &[u8], count: usize)
@@ -103,10 +100,10 @@ fn print_file(label: &[u8], file: &[u8]) {
 }
 
 // The largest file, and one byte more.
-fn room() -> [u8; 65_537]
-    ensures { λ r. ⌜ 65537 ≡ length r ⌝ }
+fn room() -> [u8; LARGEST + 1]
+    ensures { λ r. ⌜ largestFile + 1 ≡ length r ⌝ }
 {
-    [0; 65_537]
+    [0; LARGEST + 1]
 }
 
 // A file of `size` bytes, the first `given` of which are read.
@@ -125,7 +122,7 @@ fn print_next() -> bool {
     }
     let size = little_endian(&head, 0, 4) as usize;
     let given = little_endian(&head, 4, 4) as usize;
-    if size > 65_537 {
+    if size > LARGEST + 1 {
         return false;
     }
     if given > size {

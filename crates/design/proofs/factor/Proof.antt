@@ -13,27 +13,27 @@ use Rattle.design.proofs.factor.Statement.{statement}
 use Rattle.design.proofs.factor.Tie as tie
 
 abbrev Inv-loop : tie.InvT-loop
-Inv-loop columns n k l₀ i₀ l i = (i ≤ k) × (l ≡ factorOf columns n i) × (firstWhere i (failsAt columns n) ≡ Nothing)
+Inv-loop columns l₀ n k i₀ l i = (i ≤ k) × (l ≡ factorOf columns n i) × (firstWhere i (failsAt columns n) ≡ Nothing)
 
 abbrev μ-loop : tie.MeasureT-loop
-μ-loop columns n k l₀ i₀ l i = k - i
+μ-loop columns l₀ n k i₀ l i = k - i
 
 loop-holds : tie.Need-loop-holds Inv-loop μ-loop
 unfolding firstWhere
 loop-holds c = (omega arith, sym (factor-none _ _), refl)
 
 left-of-requires : tie.Need-left-of-requires Inv-loop μ-loop
-left-of-requires c κs = omega (arith, row-in (c .before .before .before .before .before .args .n) (c .before .loop-test .taken))
+left-of-requires c κs = omega (arith, row-in (c .before .before .before .before .before .args .size .rows) (c .before .loop-test .taken))
 
 column-products-requires : tie.Need-column-products-requires Inv-loop μ-loop
-column-products-requires c κs = omega (arith, row-in (c .before .before .before .before .before .before .args .n) (c .before .before .loop-test .taken))
+column-products-requires c κs = omega (arith, row-in (c .before .before .before .before .before .before .args .size .rows) (c .before .before .loop-test .taken))
 
 returns : tie.Need-returns Inv-loop μ-loop
 unfolding failsAt
 returns c =
     let a = c .before .before .before .before .before .before .before .before .before .before .before .before .args in
     let w = c .before .before .before .before .before .before .before .before .before .loop in
-    let p = fails-first (a .columns .now) (a .n) {k = a .k} {i = w .i} (c .before .before .before .before .before .before .before .before .loop-test .taken) (w .inv .2) (rw (c .before .max .ensures, c .before .before .products .ensures, c .before .before .before .before .before .column-products .ensures, c .before .before .before .before .before .before .left-of .ensures, w .inv .1) at (c .if1 .taken)) in
+    let p = fails-first (a .columns .now) (a .size .rows) {k = a .size .columns} {i = w .i} (c .before .before .before .before .before .before .before .before .loop-test .taken) (w .inv .2) (rw (c .before .max .ensures, c .before .before .products .ensures, c .before .before .before .before .before .column-products .ensures, c .before .before .before .before .before .before .left-of .ensures, w .inv .1) at (c .if1 .taken)) in
     (sym p, rw p (w .inv .1))
 
 loop-again : tie.Need-loop-again Inv-loop μ-loop
@@ -41,13 +41,13 @@ unfolding failsAt
 loop-again c =
     let a = c .before .before .before .before .before .before .before .before .before .before .before .before .before .args in
     let w = c .before .before .before .before .before .before .before .before .before .before .loop in
-    (omega arith, rw (c .sqrt .ensures, c .before .before .before .products .ensures, c .before .before .before .before .before .before .column-products .ensures, c .before .before .before .before .before .before .before .left-of .ensures, w .inv .1) (sym (factor-more (a .columns .now) (a .n) (w .i))), first-not _ _ (w .inv .2) (rw (c .before .before .max .ensures, c .before .before .before .products .ensures, c .before .before .before .before .before .before .column-products .ensures, c .before .before .before .before .before .before .before .left-of .ensures, w .inv .1) at (c .before .if1 .left)))
+    (omega arith, rw (c .sqrt .ensures, c .before .before .before .products .ensures, c .before .before .before .before .before .before .column-products .ensures, c .before .before .before .before .before .before .before .left-of .ensures, w .inv .1) (sym (factor-more (a .columns .now) (a .size .rows) (w .i))), first-not _ _ (w .inv .2) (rw (c .before .before .max .ensures, c .before .before .before .products .ensures, c .before .before .before .before .before .before .column-products .ensures, c .before .before .before .before .before .before .before .left-of .ensures, w .inv .1) at (c .before .if1 .left)))
 
 returns-2 : tie.Need-returns-2 Inv-loop μ-loop
 returns-2 c =
     let a = c .before .before .before .before .args in
     let w = c .before .loop in
-    let h : w .i ≡ a .k = omega arith in let p = hold-all (a .columns .now) (a .n) (a .k) (rw h at (w .inv .2)) in (sym p, rw (p, ← h) (w .inv .1))
+    let h : w .i ≡ a .size .columns = omega arith in let p = hold-all (a .columns .now) (a .size .rows) (a .size .columns) (rw h at (w .inv .2)) in (sym p, rw (p, ← h) (w .inv .1))
 
 pub factor-spec : {M : Type 1} → statement M
 factor-spec =

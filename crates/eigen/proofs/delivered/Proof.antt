@@ -32,7 +32,7 @@ slice-aggregate-bands c =
     let pre = c .before .before .before .before .before .before .before .before .before .before .pre in
     let place = c .before .before .before .before .before .place in
     let tridiagonalize = c .before .before .before .tridiagonalize in
-    let l : length (tridiagonalize .last .0) ≡ triangle (args .n) = omega (arith, tridiagonalize .kept .0, length-take (place .result) (args .room .now), place .ensures, pre .0) in
+    let l : length (tridiagonalize .last .0) ≡ triangle (args .size .rows) = omega (arith, tridiagonalize .kept .0, length-take (place .result) (args .room .now), place .ensures, pre .0) in
     simp length-take (simp length-append (omega arith))
 
 bands-requires : tie.Need-bands-requires
@@ -41,8 +41,8 @@ bands-requires c κs =
     let pre = c .before .before .before .before .before .before .before .before .before .before .before .before .pre in
     let place = c .before .before .before .before .before .before .before .place in
     let tridiagonalize = c .before .before .before .before .before .tridiagonalize in
-    let l : length (tridiagonalize .last .0) ≡ triangle (args .n) = omega (arith, tridiagonalize .kept .0, length-take (place .result) (args .room .now), place .ensures, pre .0) in
-    (simp length-take (simp length-append (omega arith)), pre .1, omega arith, omega arith)
+    let l : length (tridiagonalize .last .0) ≡ triangle (args .size .rows) = omega (arith, tridiagonalize .kept .0, length-take (place .result) (args .room .now), place .ensures, pre .0) in
+    ((simp length-take (simp length-append (omega arith)), pre .1), omega arith, omega arith)
 
 new-requires : tie.Need-new-requires
 new-requires c κs = search needs
@@ -93,12 +93,12 @@ returns c =
     let bands = c .before .before .before .before .before .before .before .before .before .before .before .before .before .before .before .before .before .bands in
     let new = c .before .before .before .before .before .before .before .before .before .before .new in
     let ql = c .before .before .before .before .before .before .before .before .before .ql in
-    let l : length (tridiagonalize .last .0) ≡ triangle (args .n) = omega (arith, tridiagonalize .kept .0, length-take (place .result) (args .room .now), place .ensures, pre .0) in
-    let w = worked-is (args .n) (args .room .now) (tridiagonalize .last .0) (args .d .now) (args .e .now) (bands .last .1 .1 .0) (bands .last .1 .1 .1 .0) (new .result) l (pre .3) (pre .4) (new .ensures) (place .result) (place .ensures) (tridiagonalize .ensures) (bands .ensures .0) (bands .ensures .1) in
-    let half : place .result ≡ triangle (args .n) = omega (arith, place .ensures) in
-    let v : ql .last .0 ≡ numbersOf (args .n) (whole (args .n) (take (triangle (args .n)) (args .room .now))) = ql .ensures .1 .0 ∙ ap (λ s. s .diagonal) (w .1) in
+    let l : length (tridiagonalize .last .0) ≡ triangle (args .size .rows) = omega (arith, tridiagonalize .kept .0, length-take (place .result) (args .room .now), place .ensures, pre .0) in
+    let w = worked-is (args .size .rows) (args .room .now) (tridiagonalize .last .0) (args .d .now) (args .e .now) (bands .last .1 .1 .0) (bands .last .1 .1 .1 .0) (new .result) l (pre .3) (pre .4) (new .ensures) (place .result) (place .ensures) (tridiagonalize .ensures) (bands .ensures .0) (bands .ensures .1) in
+    let half : place .result ≡ triangle (args .size .rows) = omega (arith, place .ensures) in
+    let v : ql .last .0 ≡ numbersOf (args .size .rows) (whole (args .size .rows) (take (triangle (args .size .rows)) (args .room .now))) = ql .ensures .1 .0 ∙ ap (λ s. s .diagonal) (w .1) in
     let f = ap firstBad (sym v) ∙ sym (c .before .before .first-bad .ensures) in
-    let z = number-bad (args .n) (args .k) (whole (args .n) (take (triangle (args .n)) (args .room .now))) _ (f ∙ c .enum-told .given .1) in
+    let z = number-bad (args .size .rows) (args .size .columns) (whole (args .size .rows) (take (triangle (args .size .rows)) (args .room .now))) _ (f ∙ c .enum-told .given .1) in
     (sym (z .0), (rw (w .0, half) refl, rw (z .1) refl))
 
 same-length-4 : tie.Need-same-length-4
@@ -131,12 +131,12 @@ returns-2 c =
     let enum-told2 = c .before .before .before .before .before .before .before .before .before .enum-told2 in
     let order = c .before .before .before .before .before .before .before .order in
     let keep = c .before .before .keep in
-    let l : length (tridiagonalize .last .0) ≡ triangle (args .n) = omega (arith, tridiagonalize .kept .0, length-take (place .result) (args .room .now), place .ensures, pre .0) in
-    let w = worked-is (args .n) (args .room .now) (tridiagonalize .last .0) (args .d .now) (args .e .now) (bands .last .1 .1 .0) (bands .last .1 .1 .1 .0) (new .result) l (pre .3) (pre .4) (new .ensures) (place .result) (place .ensures) (tridiagonalize .ensures) (bands .ensures .0) (bands .ensures .1) in
-    let half : place .result ≡ triangle (args .n) = omega (arith, place .ensures) in
-    let v : ql .last .0 ≡ numbersOf (args .n) (whole (args .n) (take (triangle (args .n)) (args .room .now))) = ql .ensures .1 .0 ∙ ap (λ s. s .diagonal) (w .1) in
+    let l : length (tridiagonalize .last .0) ≡ triangle (args .size .rows) = omega (arith, tridiagonalize .kept .0, length-take (place .result) (args .room .now), place .ensures, pre .0) in
+    let w = worked-is (args .size .rows) (args .room .now) (tridiagonalize .last .0) (args .d .now) (args .e .now) (bands .last .1 .1 .0) (bands .last .1 .1 .1 .0) (new .result) l (pre .3) (pre .4) (new .ensures) (place .result) (place .ensures) (tridiagonalize .ensures) (bands .ensures .0) (bands .ensures .1) in
+    let half : place .result ≡ triangle (args .size .rows) = omega (arith, place .ensures) in
+    let v : ql .last .0 ≡ numbersOf (args .size .rows) (whole (args .size .rows) (take (triangle (args .size .rows)) (args .room .now))) = ql .ensures .1 .0 ∙ ap (λ s. s .diagonal) (w .1) in
     let f = ap firstBad (sym v) ∙ sym (first-bad .ensures) in
-    let z = numbers-good (args .n) (args .k) (whole (args .n) (take (triangle (args .n)) (args .room .now))) (order .last .0) (f ∙ enum-told2 .given .1) (order .ensures ∙ rw v) in
+    let z = numbers-good (args .size .rows) (args .size .columns) (whole (args .size .rows) (take (triangle (args .size .rows)) (args .room .now))) (order .last .0) (f ∙ enum-told2 .given .1) (order .ensures ∙ rw v) in
     (rw (z .0, keep .ensures .0, ql .ensures .0 .0, ql .ensures .0 .1, w .1, w .2), (rw (w .0, half) refl, rw (z .1) (keep .ensures .1)))
 
 pub delivered-spec : {M : Type 1} → statement M

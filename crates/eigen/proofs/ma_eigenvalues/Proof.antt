@@ -13,7 +13,7 @@ use Rattle.eigen.proofs.ma_eigenvalues.Statement.{statement}
 use Rattle.eigen.proofs.ma_eigenvalues.Tie as tie
 
 mam-requires : tie.Need-mam-requires
-mam-requires c κs = (omega arith, sym (c .before .before .before .before .pre .3), c .before .before .before .before .pre .0, c .before .before .before .before .pre .1)
+mam-requires c κs = let pre = c .before .before .before .before .pre in (pre .2, pre .0)
 
 enum-told : tie.Need-enum-told
 enum-told c = search needs
@@ -36,7 +36,7 @@ slice-aggregate-delivered-2 c = simp (length-take, length-replicate) (omega arit
 delivered-requires : tie.Need-delivered-requires
 delivered-requires c κs =
     let pre = c .before .before .before .before .before .before .before .before .before .before .before .before .before .pre in
-    (omega (arith, c .before .before .before .before .before .before .before .before .mam .kept .0, triangle-twice (c .before .before .before .before .before .before .before .before .before .before .before .before .before .args .n), pre .4), pre .0, pre .2, simp (length-take, length-replicate) (omega (arith, pre .0)), simp (length-take, length-replicate) (omega (arith, pre .0)), pre .5)
+    (omega (arith, c .before .before .before .before .before .before .before .before .mam .kept .0, triangle-twice (c .before .before .before .before .before .before .before .before .before .before .before .before .before .args .size .rows), pre .2), pre .0 .0, pre .1, simp (length-take, length-replicate) (omega (arith, pre .0 .0)), simp (length-take, length-replicate) (omega (arith, pre .0 .0)), pre .3)
 
 same-length : tie.Need-same-length
 same-length c = search needs
@@ -45,7 +45,7 @@ returns : tie.Need-returns
 returns c =
     let args = c .before .before .before .before .before .before .before .before .before .args in
     let mam = c .before .before .before .before .mam in
-    let z = matrix-bad (args .columns .now) (args .inverse) (args .n) (args .k) _ (sym (mam .ensures .0) ∙ c .enum-told .given .1) in (sym (z .0), (rw (z .1) refl, rw (z .2) (mam .ensures .1)))
+    let z = matrix-bad (args .columns .now) (args .inverse) (args .size .rows) (args .size .columns) _ (sym (mam .ensures .0) ∙ c .enum-told .given .1) in (sym (z .0), (rw (z .1) refl, rw (z .2) (mam .ensures .1)))
 
 same-length-2 : tie.Need-same-length-2
 same-length-2 c = search needs
@@ -58,12 +58,12 @@ returns-2 c =
     let args = c .before .before .before .before .before .before .before .before .before .before .before .before .before .before .before .before .before .before .before .before .args in
     let mam = c .before .before .before .before .before .before .before .before .before .before .before .before .before .before .before .mam in
     let delivered = c .before .before .before .before .before .before .delivered in
-    let p = product (args .columns .now) (args .inverse) (args .n) (args .k) in
-    let m = mamOf (args .columns .now) (args .inverse) (args .n) (args .k) in
-    let o = length-half (entry (args .n) m) (args .n) in
-    let f : whole (args .n) (take (triangle (args .n)) (mam .last .0)) ≡ m = ap (λ l. whole (args .n) (take (triangle (args .n)) l)) (mam .ensures .1) ∙ ap (whole (args .n)) (take-at (halfOf (args .n) m) _ (triangle (args .n)) o) ∙ whole-half (args .n) m (length-symmetric (args .n) p) (is-symmetric (args .n) p) in
-    let g = ap (drop (triangle (args .n))) (mam .ensures .1) ∙ drop-at (halfOf (args .n) m) _ (triangle (args .n)) o in
-    let z = matrix-good (args .columns .now) (args .inverse) (args .n) (args .k) (sym (mam .ensures .0) ∙ c .before .before .before .before .before .before .before .before .before .before .before .enum-told2 .given .1) in
+    let p = product (args .columns .now) (args .inverse) (args .size .rows) (args .size .columns) in
+    let m = mamOf (args .columns .now) (args .inverse) (args .size .rows) (args .size .columns) in
+    let o = length-half (entry (args .size .rows) m) (args .size .rows) in
+    let f : whole (args .size .rows) (take (triangle (args .size .rows)) (mam .last .0)) ≡ m = ap (λ l. whole (args .size .rows) (take (triangle (args .size .rows)) l)) (mam .ensures .1) ∙ ap (whole (args .size .rows)) (take-at (halfOf (args .size .rows) m) _ (triangle (args .size .rows)) o) ∙ whole-half (args .size .rows) m (length-symmetric (args .size .rows) p) (is-symmetric (args .size .rows) p) in
+    let g = ap (drop (triangle (args .size .rows))) (mam .ensures .1) ∙ drop-at (halfOf (args .size .rows) m) _ (triangle (args .size .rows)) o in
+    let z = matrix-good (args .columns .now) (args .inverse) (args .size .rows) (args .size .columns) (sym (mam .ensures .0) ∙ c .before .before .before .before .before .before .before .before .before .before .before .enum-told2 .given .1) in
     (delivered .ensures .0 ∙ rw f (sym (z .0)), (rw (z .1) (rw f at (delivered .ensures .1 .1)), rw (z .2) (rw (f, g) at (delivered .ensures .1 .0))))
 
 pub ma-eigenvalues-spec : {M : Type 1} → statement M

@@ -11,13 +11,13 @@ use Rattle.projection.proofs.differences.Statement.{statement}
 use Rattle.projection.proofs.differences.Tie as tie
 
 set-difference-requires : tie.Need-set-difference-requires
-set-difference-requires c κs = let b = ap length (c .before .before .before .before .before .before .before .before .pre .4) ∙ length-table _ _ in let h = ap length (c .before .before .before .before .before .before .before .before .pre .5) ∙ length-table _ _ in (omega arith, omega arith)
+set-difference-requires c κs = let b = ap length (c .before .before .before .before .before .before .before .before .pre .3) ∙ length-table _ _ in let h = ap length (c .before .before .before .before .before .before .before .before .pre .4) ∙ length-table _ _ in (omega arith, omega arith)
 
 met : (c : tie.Joined1) → let args = c .before .before .before .before .before .args in c .if1 .w ≡ behind (args .n) (args .t) (args .m .now)
 met c =
     let pre = c .before .before .before .before .before .pre in
     ⊎-elim
-    (λ w. w .7 ∙ w .4 .ensures ∙ rw (pre .0) (behind-later _ _ _ _ _ (w .0 .taken) (pre .4) (pre .5)))
+    (λ w. w .7 ∙ w .4 .ensures ∙ rw (pre .0) (behind-later _ _ _ _ _ (w .0 .taken) (pre .3) (pre .4)))
     (λ w. w .5 ∙ w .2 .ensures ∙ rw (pre .0) (behind-first _ _ _ (w .0 .left)))
     (c .if1 .came)
 
@@ -25,16 +25,16 @@ wide : (c : tie.Joined1) → length (c .if1 .w) ≡ c .before .before .before .b
 wide c = ap length (met c) ∙ length-table _ _
 
 copy-requires : tie.Need-copy-requires
-copy-requires c κs = let b = ap length (c .before .before .before .before .before .before .before .before .pre .4) ∙ length-table _ _ in let h = ap length (c .before .before .before .before .before .before .before .before .pre .5) ∙ length-table _ _ in omega arith
+copy-requires c κs = let b = ap length (c .before .before .before .before .before .before .before .before .pre .3) ∙ length-table _ _ in let h = ap length (c .before .before .before .before .before .before .before .before .pre .4) ∙ length-table _ _ in omega arith
 
 copy-row-requires : tie.Need-copy-row-requires
-copy-row-requires c κs = row-fits (c .before .before .before .before .before .before .before .before .before .before .before .before .args .m .now) (c .before .before .before .before .before .before .before .before .before .before .before .before .args .here .now) (c .before .before .before .before .before .before .before .before .before .before .before .before .args .n) _ (c .before .before .before .before .before .before .before .before .before .before .before .before .pre .1) (c .before .before .before .before .before .before .before .before .before .before .before .before .pre .2) (c .before .before .before .before .before .before .if2 .taken) (ap length (c .before .before .before .before .before .before .before .before .before .before .before .before .pre .5) ∙ length-table _ _)
+copy-row-requires c κs = row-fits (c .before .before .before .before .before .before .before .before .before .before .before .before .args .m .now) (c .before .before .before .before .before .before .before .before .before .before .before .before .args .here .now) (c .before .before .before .before .before .before .before .before .before .before .before .before .args .n) _ (c .before .before .before .before .before .before .before .before .before .before .before .before .pre .1 .0) (c .before .before .before .before .before .before .before .before .before .before .before .before .pre .1 .1) (c .before .before .before .before .before .before .if2 .taken) (ap length (c .before .before .before .before .before .before .before .before .before .before .before .before .pre .4) ∙ length-table _ _)
 
 add-difference-requires : tie.Need-add-difference-requires
 add-difference-requires c κs =
     let w = wide (c .before .before .before .before .before .before .before .before .before .before .before .before .before) in
-    let b = ap length (c .before .before .before .before .before .before .before .before .before .before .before .before .before .before .before .before .before .before .pre .4) ∙ length-table _ _ in
-    let h = ap length (c .before .before .before .before .before .before .before .before .before .before .before .before .before .before .before .before .before .before .pre .5) ∙ length-table _ _ in
+    let b = ap length (c .before .before .before .before .before .before .before .before .before .before .before .before .before .before .before .before .before .before .pre .3) ∙ length-table _ _ in
+    let h = ap length (c .before .before .before .before .before .before .before .before .before .before .before .before .before .before .before .before .before .before .pre .4) ∙ length-table _ _ in
     let x = ap length (c .before .before .before .before .before .before .before .before .before .copy .ensures) ∙ length-table _ _ in
     let y = ap length (c .before .before .before .before .before .copy-row .ensures) ∙ length-table _ _ in
     (omega arith, omega arith)
@@ -46,8 +46,8 @@ returns : tie.Need-returns
 returns c =
     let args = c .before .before .before .before .before .before .before .before .before .before .before .before .before .before .before .before .before .before .before .before .before .args in
     let pre = c .before .before .before .before .before .before .before .before .before .before .before .before .before .before .before .before .before .before .before .before .before .pre in
-    let before = c .before .before .before .before .before .before .before .before .before .before .before .before .copy .ensures ∙ row-moved (args .m .now) (args .here .now) (args .n) (args .t) _ (ap length (pre .4) ∙ length-table _ _) (pre .5) in
-    let here = c .before .before .before .before .before .before .before .before .copy-row .ensures ∙ row-copied (args .m .now) (args .n) (args .t + 1) _ (ap length (pre .5) ∙ length-table _ _) in
+    let before = c .before .before .before .before .before .before .before .before .before .before .before .before .copy .ensures ∙ row-moved (args .m .now) (args .here .now) (args .n) (args .t) _ (ap length (pre .3) ∙ length-table _ _) (pre .4) in
+    let here = c .before .before .before .before .before .before .before .before .copy-row .ensures ∙ row-copied (args .m .now) (args .n) (args .t + 1) _ (ap length (pre .4) ∙ length-table _ _) in
     let sums = ahead-earlier _ _ (args .m .now) _ _ _ (c .before .before .before .before .before .before .before .before .before .before .before .before .before .before .before .if2 .taken) (met (c .before .before .before .before .before .before .before .before .before .before .before .before .before .before .before .before)) before here in
     (c .before .before .add-difference .ensures ∙ rw (wide (c .before .before .before .before .before .before .before .before .before .before .before .before .before .before .before .before)) sums, (λ h. (before, here)))
 

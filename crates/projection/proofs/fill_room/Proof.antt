@@ -9,16 +9,18 @@ use Rattle.projection.proofs.fill_room.Statement.{statement}
 use Rattle.projection.proofs.fill_room.Tie as tie
 
 slice-aggregate-residual-maker : tie.Need-slice-aggregate-residual-maker
-slice-aggregate-residual-maker c = sym (array-lent _ _ (c .before .before .before .before .before .pre .2))
+slice-aggregate-residual-maker c = sym (array-lent _ _ (c .before .before .before .before .before .pre .1 .1))
 
 residual-maker-requires : tie.Need-residual-maker-requires
-residual-maker-requires c κs = (second-lent (c .before .before .place .result) (c .before .before .before .before .before .args .room .now) (omega (arith, c .before .before .place .ensures, c .before .before .before .before .before .pre .0)) ∙ c .before .before .place .ensures ∙ add-zero _, c .before .before .before .before .before .pre .3, array-lent _ _ (c .before .before .before .before .before .pre .2), c .before .before .before .before .before .pre .1, c .before .before .before .before .before .pre .2)
+residual-maker-requires c κs =
+    let pre = c .before .before .before .before .before .pre in
+    ((second-lent (c .before .before .place .result) (c .before .before .before .before .before .args .room .now) (omega (arith, c .before .before .place .ensures, pre .0 .0)) ∙ c .before .before .place .ensures ∙ add-zero _, pre .0 .1), array-lent _ _ (pre .1 .1), pre .1)
 
 returns : tie.Need-returns
-returns c = let z : c .before .before .before .before .before .before .before .before .before .before .before .place .result ≡ triangle (c .before .before .before .before .before .before .before .before .before .before .before .before .before .before .args .n) = c .before .before .before .before .before .before .before .before .before .before .before .place .ensures ∙ add-zero _ in room-of (c .before .before .before .before .before .before .before .before .before .before .before .before .before .before .args .x .now) (c .before .before .before .before .before .before .before .before .before .before .before .before .before .before .args .inv .now) (c .before .before .before .before .before .before .before .before .before .before .before .before .before .before .args .n) (c .before .before .before .before .before .before .before .before .before .before .before .before .before .before .args .k) (c .before .before .before .before .before .before .before .before .before .before .before .before .before .before .args .room .now) (c .before .before .before .before .before .before .before .before .before .before .before .before .before .before .pre .0) (c .before .before .before .before .before .before .before .before .residual-maker .last .0) _ (c .before .before .products-of-few .last .0) (c .before .before .before .before .before .before .before .before .residual-maker .ensures) refl (rw z at (c .before .before .products-of-few .ensures))
+returns c = let z : c .before .before .before .before .before .before .before .before .before .before .before .place .result ≡ triangle (c .before .before .before .before .before .before .before .before .before .before .before .before .before .before .args .size .rows) = c .before .before .before .before .before .before .before .before .before .before .before .place .ensures ∙ add-zero _ in room-of (c .before .before .before .before .before .before .before .before .before .before .before .before .before .before .args .x .now) (c .before .before .before .before .before .before .before .before .before .before .before .before .before .before .args .inv .now) (c .before .before .before .before .before .before .before .before .before .before .before .before .before .before .args .size .rows) (c .before .before .before .before .before .before .before .before .before .before .before .before .before .before .args .size .columns) (c .before .before .before .before .before .before .before .before .before .before .before .before .before .before .args .room .now) (c .before .before .before .before .before .before .before .before .before .before .before .before .before .before .pre .0 .0) (c .before .before .before .before .before .before .before .before .residual-maker .last .0) _ (c .before .before .products-of-few .last .0) (c .before .before .before .before .before .before .before .before .residual-maker .ensures) refl (rw z at (c .before .before .products-of-few .ensures))
 
 returns-2 : tie.Need-returns-2
-returns-2 c = let z : c .before .before .before .before .before .before .before .before .before .before .before .place .result ≡ triangle (c .before .before .before .before .before .before .before .before .before .before .before .before .before .before .args .n) = c .before .before .before .before .before .before .before .before .before .before .before .place .ensures ∙ add-zero _ in room-of (c .before .before .before .before .before .before .before .before .before .before .before .before .before .before .args .x .now) (c .before .before .before .before .before .before .before .before .before .before .before .before .before .before .args .inv .now) (c .before .before .before .before .before .before .before .before .before .before .before .before .before .before .args .n) (c .before .before .before .before .before .before .before .before .before .before .before .before .before .before .args .k) (c .before .before .before .before .before .before .before .before .before .before .before .before .before .before .args .room .now) (c .before .before .before .before .before .before .before .before .before .before .before .before .before .before .pre .0) (c .before .before .before .before .before .before .before .before .residual-maker .last .0) _ (c .before .before .products-of-many .last .0) (c .before .before .before .before .before .before .before .before .residual-maker .ensures) refl (rw z at (c .before .before .products-of-many .ensures))
+returns-2 c = let z : c .before .before .before .before .before .before .before .before .before .before .before .place .result ≡ triangle (c .before .before .before .before .before .before .before .before .before .before .before .before .before .before .args .size .rows) = c .before .before .before .before .before .before .before .before .before .before .before .place .ensures ∙ add-zero _ in room-of (c .before .before .before .before .before .before .before .before .before .before .before .before .before .before .args .x .now) (c .before .before .before .before .before .before .before .before .before .before .before .before .before .before .args .inv .now) (c .before .before .before .before .before .before .before .before .before .before .before .before .before .before .args .size .rows) (c .before .before .before .before .before .before .before .before .before .before .before .before .before .before .args .size .columns) (c .before .before .before .before .before .before .before .before .before .before .before .before .before .before .args .room .now) (c .before .before .before .before .before .before .before .before .before .before .before .before .before .before .pre .0 .0) (c .before .before .before .before .before .before .before .before .residual-maker .last .0) _ (c .before .before .products-of-many .last .0) (c .before .before .before .before .before .before .before .before .residual-maker .ensures) refl (rw z at (c .before .before .products-of-many .ensures))
 
 pub fill-room-spec : {M : Type 1} → statement M
 fill-room-spec =

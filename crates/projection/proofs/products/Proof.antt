@@ -20,10 +20,10 @@ abbrev μ-loop : tie.MeasureT-loop
 μ-loop room₀ w₀ stride n before₀ here₀ half t₀ room w before here t = n - t
 
 slice-aggregate-fill : tie.Need-slice-aggregate-fill Inv-loop μ-loop
-slice-aggregate-fill c = half-lent _ (c .before .before .before .before .before .before .args .room .now) (omega (arith, c .before .place .ensures, c .before .before .before .before .before .before .pre .0))
+slice-aggregate-fill c = half-lent _ (c .before .before .before .before .before .before .args .room .now) (omega (arith, c .before .place .ensures, c .before .before .before .before .before .before .pre .0 .0))
 
 loop-holds : tie.Need-loop-holds Inv-loop μ-loop
-loop-holds c = let z : c .before .before .before .before .place .result ≡ triangle (c .before .before .before .before .before .before .before .before .before .args .n) = c .before .before .before .before .place .ensures ∙ add-zero _ in let e = rw z at (c .before .before .fill .ensures) ∙ ap (table (λ j. minusZero)) (sym (half-lent _ (c .before .before .before .before .before .before .before .before .before .args .room .now) (c .before .before .before .before .before .before .before .before .before .pre .0))) in (omega arith, refl, refl, rw (length-front (c .before .before .before .before .before .before .before .before .before .args .room .now) (c .before .before .fill .last .0) (c .before .before .before .before .place .result) (search needs)) (c .before .before .before .before .before .before .before .before .before .pre .0), refl, refl, rw z (terms-begin _ _ (c .before .before .before .before .before .before .before .before .before .args .room .now) e))
+loop-holds c = let z : c .before .before .before .before .place .result ≡ triangle (c .before .before .before .before .before .before .before .before .before .args .n) = c .before .before .before .before .place .ensures ∙ add-zero _ in let e = rw z at (c .before .before .fill .ensures) ∙ ap (table (λ j. minusZero)) (sym (half-lent _ (c .before .before .before .before .before .before .before .before .before .args .room .now) (c .before .before .before .before .before .before .before .before .before .pre .0 .0))) in (omega arith, refl, refl, rw (length-front (c .before .before .before .before .before .before .before .before .before .args .room .now) (c .before .before .fill .last .0) (c .before .before .before .before .place .result) (search needs)) (c .before .before .before .before .before .before .before .before .before .pre .0 .0), refl, refl, rw z (terms-begin _ _ (c .before .before .before .before .before .before .before .before .before .args .room .now) e))
 
 add-block-requires : tie.Need-add-block-requires Inv-loop μ-loop
 add-block-requires c κs =
@@ -31,13 +31,13 @@ add-block-requires c κs =
     let loop = c .before .before .before .before .before .before .loop in
     let next = c .before .before .before .before .next-block .ensures in
     let h = mul-le-mul-right (c .before .before .before .before .before .before .before .before .before .before .before .before .before .before .before .before .args .stride) (next .1) in
-    (loop .inv .3, pre .1, pre .2, omega arith, c .before .before .before .before .before .loop-test .taken, omega arith, next .1, simp length-take (omega (arith, pre .4)), simp length-take (omega (arith, pre .5)))
+    ((loop .inv .3, pre .0 .1), pre .1, omega arith, c .before .before .before .before .before .loop-test .taken, omega arith, next .1, simp length-take (omega (arith, pre .3)), simp length-take (omega (arith, pre .4)))
 
 loop-again : tie.Need-loop-again Inv-loop μ-loop
 loop-again c = (omega arith, search needs, search needs, omega arith, search needs, search needs, c .before .before .before .before .before .before .before .before .add-block .ensures ∙ terms-more _ _ _ _ _ (c .before .before .before .before .before .before .before .before .before .before .before .before .before .before .before .loop .inv .6))
 
 returns : tie.Need-returns Inv-loop μ-loop
-returns c = let z : c .before .before .before .before .before .before .place .result ≡ triangle (c .before .before .before .before .before .before .before .before .before .before .before .args .n) = c .before .before .before .before .before .before .place .ensures ∙ add-zero _ in let e = rw z at (c .before .before .before .before .fill .ensures) ∙ ap (table (λ j. minusZero)) (sym (half-lent _ (c .before .before .before .before .before .before .before .before .before .before .before .args .room .now) (c .before .before .before .before .before .before .before .before .before .before .before .pre .0))) in rw z at (c .before .loop .inv .6) ∙ terms-same _ (c .before .before .before .before .fill .last .0) (c .before .before .before .before .before .before .before .before .before .before .before .args .room .now) e _ ∙ ap (termsTo (c .before .before .before .before .before .before .before .before .before .before .before .args .n) (c .before .before .before .before .before .before .before .before .before .before .before .args .room .now)) (le-antisymm (c .before .loop .inv .0) (c .loop-test .left)) ∙ terms-all _ _
+returns c = let z : c .before .before .before .before .before .before .place .result ≡ triangle (c .before .before .before .before .before .before .before .before .before .before .before .args .n) = c .before .before .before .before .before .before .place .ensures ∙ add-zero _ in let e = rw z at (c .before .before .before .before .fill .ensures) ∙ ap (table (λ j. minusZero)) (sym (half-lent _ (c .before .before .before .before .before .before .before .before .before .before .before .args .room .now) (c .before .before .before .before .before .before .before .before .before .before .before .pre .0 .0))) in rw z at (c .before .loop .inv .6) ∙ terms-same _ (c .before .before .before .before .fill .last .0) (c .before .before .before .before .before .before .before .before .before .before .before .args .room .now) e _ ∙ ap (termsTo (c .before .before .before .before .before .before .before .before .before .before .before .args .n) (c .before .before .before .before .before .before .before .before .before .before .before .args .room .now)) (le-antisymm (c .before .loop .inv .0) (c .loop-test .left)) ∙ terms-all _ _
 
 pub products-spec : {M : Type 1} → statement M
 products-spec =

@@ -16,26 +16,26 @@ use Rattle.projection.proofs.weight.Statement.{statement}
 use Rattle.projection.proofs.weight.Tie as tie
 
 abbrev Inv-loop : tie.InvT-loop
-Inv-loop x inv n k t c s₀ m₀ s m = (m ≤ k) × (s ≡ sumOf m (λ m. x ‼ (m * n + t) ⊗ getD (getD inv m []) c nan))
+Inv-loop x inv t c n k s₀ m₀ s m = (m ≤ k) × (s ≡ sumOf m (λ m. x ‼ (m * n + t) ⊗ getD (getD inv m []) c nan))
 
 abbrev μ-loop : tie.MeasureT-loop
-μ-loop x inv n k t c s₀ m₀ s m = k - m
+μ-loop x inv t c n k s₀ m₀ s m = k - m
 
 loop-holds : tie.Need-loop-holds Inv-loop μ-loop
 unfolding sumOf
 loop-holds c = (omega arith, refl)
 
 mul-s : tie.Need-mul-s Inv-loop μ-loop
-mul-s c = let h = row-in (c .before .before .args .n) (c .loop-test .taken) in omega arith
+mul-s c = let h = row-in (c .before .before .args .size .rows) (c .loop-test .taken) in omega arith
 
 add-s : tie.Need-add-s Inv-loop μ-loop
-add-s c = let h = row-in (c .before .before .args .n) (c .loop-test .taken) in omega arith
+add-s c = let h = row-in (c .before .before .args .size .rows) (c .loop-test .taken) in omega arith
 
 mul-s-2 : tie.Need-mul-s-2 Inv-loop μ-loop
-mul-s-2 c = let h = row-in (c .before .before .args .n) (c .loop-test .taken) in omega arith
+mul-s-2 c = let h = row-in (c .before .before .args .size .rows) (c .loop-test .taken) in omega arith
 
 shared-slice-read-s : tie.Need-shared-slice-read-s Inv-loop μ-loop
-shared-slice-read-s c = let h = row-in (c .before .before .before .args .n) (c .before .loop-test .taken) in omega arith
+shared-slice-read-s c = let h = row-in (c .before .before .before .args .size .rows) (c .before .loop-test .taken) in omega arith
 
 loop-again : tie.Need-loop-again Inv-loop μ-loop
 unfolding sumOf

@@ -11,10 +11,10 @@ use Rattle.projection.proofs.weights.Statement.{statement}
 use Rattle.projection.proofs.weights.Tie as tie
 
 abbrev Inv-loop : tie.InvT-loop
-Inv-loop u₀ x inv n k i c₀ u c = (c ≤ k) × (length u ≡ length u₀) × (u ≡ filled (λ c. weight x inv n k i c) c u₀)
+Inv-loop u₀ x inv size i k c₀ u c = (c ≤ k) × (length u ≡ length u₀) × (u ≡ filled (λ c. weight x inv (size .rows) k i c) c u₀)
 
 abbrev μ-loop : tie.MeasureT-loop
-μ-loop u₀ x inv n k i c₀ u c = k - c
+μ-loop u₀ x inv size i k c₀ u c = k - c
 
 loop-again : tie.Need-loop-again Inv-loop μ-loop
 loop-again c = let h : c .before .before .loop .c < length (c .before .before .before .before .before .args .u .now) = search needs in (omega arith, simp length-set (omega arith), rw (c .before .before .loop .inv .2, c .weight .ensures) (filled-more _ _ _ nan h))

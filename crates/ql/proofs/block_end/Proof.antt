@@ -1,13 +1,13 @@
 -- After t turns none of the first t couplings is negligible, and `above` is the size of the diagonal entry that the next one couples. Assumes nothing.
 use mathlib.Core.Bool.{Bool}
 use lib.Ieee.{Float, le}
-use Rattle.floats.specs.Words.{_⊕_, _⊗_, _‼_, float}
+use Rattle.floats.specs.Words.{_⊕_, _⊗_, _‼_}
 use Rattle.floats.specs.Signs.{absOf}
 use Rattle.floats.specs.Search.{firstWhere}
 use Rattle.floats.specs.declared.search.Found.the-variants.{Nothing}
 use Rattle.floats.proofs.FirstLaws.{first-at, first-not}
 use Rattle.ql.proofs.SizeLaws.{sizeOf, le-sizes}
-use Rattle.ql.specs.Rotation.{negligible}
+use Rattle.ql.specs.Rotation.{epsilon, negligible}
 use Rattle.ql.specs.Sweep.{blockEnd, endAt}
 use Prim.Native.Nat.{ℕ, zero, suc, _≤_, _<_, _-_, _*_, _+_}
 use native.Mathlib.Omega.{arith}
@@ -23,7 +23,7 @@ use Rattle.ql.proofs.block_end.Lts as lts
 use Rattle.ql.proofs.is_negligible.Reads as is-negligible-reads
 
 -- what the test says, from the sizes at hand
-said : (r : Bool) (e a b above below : Float) → r ≡ le (absOf e) (float 0x3cb0000000000000 ⊗ (above ⊕ below)) → above ≡ sizeOf a → below ≡ sizeOf b → negligible e a b ≡ r
+said : (r : Bool) (e a b above below : Float) → r ≡ le (absOf e) (epsilon ⊗ (above ⊕ below)) → above ≡ sizeOf a → below ≡ sizeOf b → negligible e a b ≡ r
 said r e a b above below q x y = sym ((rw (x, y) at q) ∙ le-sizes e a b)
 
 abbrev Inv-loop : tie.InvT-loop

@@ -2,7 +2,7 @@
 use native.Mathlib.Nat.{sub-zero}
 use borrow.Author.Tests.{eq-eqb, ne-eqb}
 use Rattle.floats.proofs.ListLaws.{sub-step, sub-none}
-use Rattle.ql.specs.Ql.{settled}
+use Rattle.ql.specs.Ql.{mostSweeps, settled}
 use Prim.Native.Nat.{_≤_, _-_, _+_}
 use native.Mathlib.Omega.{arith}
 use mathlib.Core.Path.{_≡_, refl, ap}
@@ -12,13 +12,13 @@ use Rattle.ql.proofs.settle.Statement.{statement}
 use Rattle.ql.proofs.settle.Tie as tie
 
 abbrev Inv-loop : tie.InvT-loop
-Inv-loop d₀ e₀ n l tally₀ turn₀ d e tally turn = (turn ≤ 60) × (length d ≡ length d₀) × (length e ≡ length e₀) × (tally .sweeps ≤ tally₀ .sweeps + turn) × (settled n l (60 - turn) d e tally ≡ settled n l 60 d₀ e₀ tally₀)
+Inv-loop d₀ e₀ n l tally₀ turn₀ d e tally turn = (turn ≤ mostSweeps) × (length d ≡ length d₀) × (length e ≡ length e₀) × (tally .sweeps ≤ tally₀ .sweeps + turn) × (settled n l (mostSweeps - turn) d e tally ≡ settled n l mostSweeps d₀ e₀ tally₀)
 
 abbrev μ-loop : tie.MeasureT-loop
-μ-loop d₀ e₀ n l tally₀ turn₀ d e tally turn = 60 - turn
+μ-loop d₀ e₀ n l tally₀ turn₀ d e tally turn = mostSweeps - turn
 
 loop-holds : tie.Need-loop-holds Inv-loop μ-loop
-loop-holds c = (omega arith, refl, refl, omega arith, rw (sub-zero 60) refl)
+loop-holds c = (omega arith, refl, refl, omega arith, rw (sub-zero mostSweeps) refl)
 
 returns : tie.Need-returns Inv-loop μ-loop
 unfolding settled

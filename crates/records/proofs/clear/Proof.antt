@@ -42,6 +42,7 @@ use denote.Triple.Statement.{Triple}
 use denote.Triple.Table.{entered, cited}
 use denote.Triple.Walked.{says, needs, Stays, stay-slice, walkOf, goes-slice, Walks, ends-at, walked, walk-meets}
 use Rattle.imhof.specs.declared.Part.{Part}
+use Rattle.imhof.specs.Parts.{mostParts}
 use Rattle.imhof.proofs.Part as T
 use Rattle.imhof.proofs.Part.Laws as T′
 use Rattle.records.specs.Records.{zeroPart}
@@ -68,7 +69,7 @@ abbrev zeroed : List Part → ℕ → List Part
 zeroed ys i = replicate i zeroPart ++ drop i ys
 
 module _ {M : Type 1} (𝓤 : URA M) (H : Heap 𝓤) (A : Atoms 𝓤) (W : Given 𝓤 H A) (at-mem : Memory → SProp 𝓤) (run : Routine → Fun 𝓤) (κ : Lft) (q : Share) (b o : ℕ) (γ : GName) (ys : List Part)
-    (room : Room T.the-row (length ys)) (within : 2001 ≤ length ys) where
+    (room : Room T.the-row (length ys)) (within : mostParts ≤ length ys) where
   abbrev a : RefT (List Part) × Unit {0}
   a = (ref b o γ ys, tt)
 
@@ -81,7 +82,7 @@ module _ {M : Type 1} (𝓤 : URA M) (H : Heap 𝓤) (A : Atoms 𝓤) (W : Given
   abbrev Post : Val → SProp 𝓤
   Post = walkOf 𝓤 H A f.ended stayed (f.clauses 𝓤 H A at-mem run) .post (((κ, tt), (q, tt), tt, a, at), tt)
 
-  exits : (zs : List Part) → length zs ≡ length ys → zs ≡ zeroed ys 2001 → ent 𝓤 (⋆ 𝓤 H A (‵ (fobs γ (codedHoleys T.the-row .code (heres T.the-row zs))) ∷ ‵ (fbor κ (Held T.the-row (length zs) b o γ)) ∷ ‵ (flft κ q) ∷ [])) (Post vunit)
+  exits : (zs : List Part) → length zs ≡ length ys → zs ≡ zeroed ys mostParts → ent 𝓤 (⋆ 𝓤 H A (‵ (fobs γ (codedHoleys T.the-row .code (heres T.the-row zs))) ∷ ‵ (fbor κ (Held T.the-row (length zs) b o γ)) ∷ ‵ (flft κ q) ∷ [])) (Post vunit)
   exits zs e is =
       qed W (‵ (fobs γ (codedHoleys T.the-row .code (heres T.the-row zs))) ∷ ‵ (fbor κ (Held T.the-row (length zs) b o γ)) ∷ ‵ (flft κ q) ∷ []) ∵
       suffices ! _ (ends-at 𝓤 H A f.ended stayed (f.clauses 𝓤 H A at-mem run) W (((κ, tt), (q, tt), tt, a, at), tt) vunit tt (zs, tt) (e, tt)) $ says ! is $
@@ -91,13 +92,13 @@ module _ {M : Type 1} (𝓤 : URA M) (H : Heap 𝓤) (A : Atoms 𝓤) (W : Given
       feqI ! (List Val) (vunit ∷ []) (vunit ∷ []) refl $ move ! (1 ∷ 0 ∷ []) $ done !
 
   abbrev Upto : Type 0
-  Upto = (i : ℕ) × (i ≤ 2001)
+  Upto = (i : ℕ) × (i ≤ mostParts)
 
   abbrev Nearer : Upto → Upto → Type 0
-  Nearer j i = 2001 - j .0 < 2001 - i .0
+  Nearer j i = mostParts - j .0 < mostParts - i .0
 
   Nearer-wf : WellFounded Nearer
-  Nearer-wf = InvImage·wf (λ (i : Upto). 2001 - i .0) (Nat·lt-wfRel .wf)
+  Nearer-wf = InvImage·wf (λ (i : Upto). mostParts - i .0) (Nat·lt-wfRel .wf)
 
   len : (i : Upto) → length (zeroed ys (i .0)) ≡ length ys
   len i = length-cleared zeroPart ys (i .0) (le-trans (i .1) within)
@@ -130,28 +131,28 @@ module _ {M : Type 1} (𝓤 : URA M) (H : Heap 𝓤) (A : Atoms 𝓤) (W : Given
         assigns ! (of-opd ! (load ! (from ! (stop !)) (look ! 12 refl))) (from ! (hop ! (look ! 4 refl) (stop !))) (store-elem ! (zeroed ys (i .0)) (i .0) b o zeroPart zero-is (in-row less)) $
         assigns-last ! (bin ! (load ! (from ! (stop !)) (look ! 10 refl)) (lit ! tt) (record { fits = next-fits less })) (from ! (stop !)) (store ! 10 refl (tt, record { fits = next-fits less })) $
         rewrite ! 0 (λ (zs : List Part). ‵ (row T.the-row fullShare zs b o)) (clear-next zeroPart ys (i .0) (in-ys less)) refl $
-        forget ! 8 refl $ forget ! 6 refl $ forget ! 4 refl $ again ! Nearer At i (i .0 + 1, add-one-le (below less)) (add-one-dec 2001 (i .0) (below less)))
+        forget ! 8 refl $ forget ! 6 refl $ forget ! 4 refl $ again ! Nearer At i (i .0 + 1, add-one-le (below less)) (add-one-dec mostParts (i .0) (below less)))
         (λ over. jumps ! $ exec ! C Λ En mir.t-4 (atRet En Post) $
         assigns ! (of-opd ! (unit-lit !)) (from ! (stop !)) (init ! 16 refl (tt, tt)) $
         closes-slice ! tt T.the-row ys (zeroed ys (i .0)) (len i) b o $
         -- [obs; the borrow; the token; _6; …]
         returns ! (look ! 15 refl) $ forget ! 7 refl $ forget ! 9 refl $ forget ! 11 refl $ forget ! 13 refl $ forget ! 15 refl $
         move ! (15 ∷ 16 ∷ []) $ free1 ! $ move ! (13 ∷ 14 ∷ []) $ free1 ! $ move ! (11 ∷ 12 ∷ []) $ free1 ! $ move ! (9 ∷ 10 ∷ []) $ free1 ! $ move ! (7 ∷ 8 ∷ []) $ free1 ! $ move ! (5 ∷ 6 ∷ []) $ free1 ! $ move ! (3 ∷ 4 ∷ []) $ free1 ! $ free0 ! $
-        by ! (exits (zeroed ys (i .0)) (len i) (ap (zeroed ys) (le-antisymm (i .1) (nltb→le (i .0) 2001 over)))))
+        by ! (exits (zeroed ys (i .0)) (len i) (ap (zeroed ys) (le-antisymm (i .1) (nltb→le (i .0) mostParts over)))))
       where
-        below : T (ltb (i .0) 2001) → i .0 < 2001
-        below less = ltb→lt (i .0) 2001 less
+        below : T (ltb (i .0) mostParts) → i .0 < mostParts
+        below less = ltb→lt (i .0) mostParts less
 
-        in-ys : T (ltb (i .0) 2001) → i .0 < length ys
+        in-ys : T (ltb (i .0) mostParts) → i .0 < length ys
         in-ys less = let l = below less in omega (arith, l, within)
 
-        in-row : T (ltb (i .0) 2001) → i .0 < length (zeroed ys (i .0))
+        in-row : T (ltb (i .0) mostParts) → i .0 < length (zeroed ys (i .0))
         in-row less = subst (λ (k : ℕ). i .0 < k) (sym (len i)) (in-ys less)
 
-        small : T (ltb (i .0) 2001) → i .0 * 32 < 2 ^ 64
+        small : T (ltb (i .0) mostParts) → i .0 * 32 < 2 ^ 64
         small less = inside (i .0) (length ys) (in-ys less) room
 
-        next-fits : T (ltb (i .0) 2001) → i .0 + 1 < 2 ^ 64
+        next-fits : T (ltb (i .0) mostParts) → i .0 + 1 < 2 ^ 64
         next-fits less = let l = below less in omega (arith, l)
 
   walk : (𝓣 : Tables 𝓤 H) → Triple 𝓤 (𝓣 .C #records·course·zero) (Zero 𝓤 H A at-mem run) → ent 𝓤 (onEntry 𝓤 H A f.signature (κ, tt) (q, tt) a at) (WpFn 𝓤 H (𝓣 .C) (𝓣 .Λ) code.function (s ∷ []) Post)
@@ -171,7 +172,7 @@ module _ {M : Type 1} (𝓤 : URA M) (H : Heap 𝓤) (A : Atoms 𝓤) (W : Given
 module _ {M : Type 1} (𝓤 : URA M) (H : Heap 𝓤) (A : Atoms 𝓤) (W : Given 𝓤 H A) (at-mem : Memory → SProp 𝓤) (run : Routine → Fun 𝓤) (𝓣 : Tables 𝓤 H) (known-zero : Triple 𝓤 (𝓣 .C #records·course·zero) (Zero 𝓤 H A at-mem run)) where
   walks : Walks 𝓤 H A f.ended stayed (WpFn 𝓤 H (𝓣 .C) (𝓣 .Λ) code.function) (f.clauses 𝓤 H A at-mem run)
   walks = walked 𝓤 H A f.ended stayed (f.clauses 𝓤 H A at-mem run) (WpFn 𝓤 H (𝓣 .C) (𝓣 .Λ) code.function) (λ κs. (slice-vals, tt)) (λ κs. (mut-slice-tells (named 0) (κs .0) T.the-row, tt))
-      (λ κs qs bounds a g are. needs 𝓤 (2001 ≤ length (a .0 .now)) _ (λ within.
+      (λ κs qs bounds a g are. needs 𝓤 (mostParts ≤ length (a .0 .now)) _ (λ within.
       walk 𝓤 H A W at-mem run (κs .0) (qs .0) (a .0 .ptr .0) (a .0 .ptr .1) (a .0 .name) (a .0 .now) (are .0 .0 .1) within 𝓣 known-zero))
 
   meets : Meets 𝓤 H A f.signature (WpFn 𝓤 H (𝓣 .C) (𝓣 .Λ) code.function) (f.spec 𝓤 H A at-mem run)

@@ -43,7 +43,7 @@ use denote.Triple.Walked.{says, Stays, stay-none, stay-none-slice, walkOf, goes-
 use denote.Exit.{yes}
 use Rattle.imhof.specs.Imhof.{quadratureOf}
 use Rattle.imhof.specs.Integrand.{integrandOf}
-use Rattle.imhof.specs.Parts.{stageAfter}
+use Rattle.imhof.specs.Parts.{mostBisections, mostParts, stageAfter}
 use Rattle.imhof.specs.declared.Part.{Part}
 use Rattle.imhof.specs.declared.Quadrature.{Quadrature}
 use Rattle.imhof.proofs.Part as T
@@ -81,8 +81,8 @@ module _ {M : Type 1} (𝓤 : URA M) (H : Heap 𝓤) (A : Atoms 𝓤) (mem : Mem
   abbrev Quadratures : Contract 𝓤
   Quadratures = tripleOf 𝓤 H A quadrature.signature (quadrature.spec 𝓤 H A mem run)
 
--- `quadrature` on the records ys at (b, 0), 2,001 of them at least
-module _ {M : Type 1} (𝓤 : URA M) (H : Heap 𝓤) (A : Atoms 𝓤) (W : Given 𝓤 H A) (mem : Memory → SProp 𝓤) (run : Routine → Fun 𝓤) (b : ℕ) (ys : List Part) (within : 2001 ≤ length ys) (κw : Lft) (qw : Share) (wref : RefT (List Float)) (lo hi : Float) where
+-- `quadrature` on the records ys at (b, 0), mostParts of them at least
+module _ {M : Type 1} (𝓤 : URA M) (H : Heap 𝓤) (A : Atoms 𝓤) (W : Given 𝓤 H A) (mem : Memory → SProp 𝓤) (run : Routine → Fun 𝓤) (b : ℕ) (ys : List Part) (within : mostParts ≤ length ys) (κw : Lft) (qw : Share) (wref : RefT (List Float)) (lo hi : Float) where
   abbrev at-list : Val
   at-list = sliceVal (b, 0) (length ys)
 
@@ -96,7 +96,7 @@ module _ {M : Type 1} (𝓤 : URA M) (H : Heap 𝓤) (A : Atoms 𝓤) (W : Given
   Weights = ShrSlice (named 0) κw f64 .own wref (sw ∷ [])
 
   abbrev answer : Quadrature
-  answer = quadratureOf (stageAfter 2000 (integrandOf (wref .now)) lo hi)
+  answer = quadratureOf (stageAfter mostBisections (integrandOf (wref .now)) lo hi)
 
   abbrev to-quadrature : ℕ → GName → Quadratures 𝓤 H A mem run .Ghost
   to-quadrature ν δ = (((κw, (ν ∷ [], tt)), (qw, (fullShare, tt)), tt, (wref, (lo, (hi, (ref b 0 δ ys, tt)))), (sw ∷ [], (vfloat binary64 lo ∷ [], (vfloat binary64 hi ∷ [], (at-list ∷ [], tt))))), tt)
@@ -138,7 +138,7 @@ module _ {M : Type 1} (𝓤 : URA M) (H : Heap 𝓤) (A : Atoms 𝓤) (W : Given
   Post = walkOf 𝓤 H A f.ended stayed (f.clauses 𝓤 H A at-mem run) .post (((κw, tt), (qw, tt), tt, a, at), tt)
 
   abbrev ans : Answer
-  ans = Found (quadratureOf (stageAfter 2000 (integrandOf (wref .now)) lo hi))
+  ans = Found (quadratureOf (stageAfter mostBisections (integrandOf (wref .now)) lo hi))
 
   exits : AnswerIs ans → ent 𝓤 (⋆ 𝓤 H A (‵ (flft κw qw) ∷ ‵ Own ∷ [])) (Post (N′.lowered ans))
   exits gr =
@@ -148,19 +148,19 @@ module _ {M : Type 1} (𝓤 : URA M) (H : Heap 𝓤) (A : Atoms 𝓤) (W : Given
       owned ! N.the-row (Is N.the-row) ((EL.makes N.the-type N′.the-plain) 𝓤 H A) ans _ gr $ done !
 
   abbrev ys : List Part
-  ys = replicate 2001 zeroPart
+  ys = replicate mostParts zeroPart
 
-  len : length ys ≡ 2001
-  len = length-replicate 2001 zeroPart
+  len : length ys ≡ mostParts
+  len = length-replicate mostParts zeroPart
 
-  within : 2001 ≤ length ys
-  within = subst (λ (k : ℕ). 2001 ≤ k) (sym len) (le-refl 2001)
+  within : mostParts ≤ length ys
+  within = subst (λ (k : ℕ). mostParts ≤ k) (sym len) (le-refl mostParts)
 
   room : Room T.the-row (length ys)
   room = subst (Room T.the-row) (sym len) (lit< tt, lit< tt)
 
-  len-left : length (clearedOf ys) ≡ 2001
-  len-left = ap length (sym (left-cleared ys within)) ∙ length-cleared zeroPart ys 2001 within ∙ len
+  len-left : length (clearedOf ys) ≡ mostParts
+  len-left = ap length (sym (left-cleared ys within)) ∙ length-cleared zeroPart ys mostParts within ∙ len
 
   walk : (𝓣 : Tables 𝓤 H) (known-zero : Triple 𝓤 (𝓣 .C #records·course·zero) (Zero 𝓤 H A at-mem run)) (known-quadrature : Triple 𝓤 (𝓣 .C #records·quadrature) (Quadratures 𝓤 H A at-mem run)) → ent 𝓤 (onEntry 𝓤 H A f.signature (κw, tt) (qw, tt) a at) (WpFn 𝓤 H (𝓣 .C) (𝓣 .Λ) code.function (ws ∷ vfloat binary64 lo ∷ vfloat binary64 hi ∷ []) Post)
   walk 𝓣 known-zero known-quadrature =
@@ -172,16 +172,16 @@ module _ {M : Type 1} (𝓤 : URA M) (H : Heap 𝓤) (A : Atoms 𝓤) (W : Given
       keep ! (0 ∷ 2 ∷ 4 ∷ 5 ∷ 6 ∷ 7 ∷ 8 ∷ 9 ∷ 10 ∷ 11 ∷ 12 ∷ 13 ∷ 14 ∷ 15 ∷ 16 ∷ 17 ∷ 18 ∷ 19 ∷ []) $
       calls-known ! (fmOf 𝓤 H (W .laws) 𝓣) (Zero 𝓤 H A at-mem run) known-zero (to-zero 𝓤 H A W at-mem run) (asks-zero 𝓤 H A W at-mem run) (T′.lowered zeroPart) (PartIs zeroPart) (says-zero 𝓤 H A W at-mem run) (no-more !) (λ gz.
       land ! (from ! (stop !)) (init ! 8 refl (LL.lawful T.the-type T′.the-laws 𝓤 H A W .typed zeroPart _ gz .0)) $
-      assigns ! (rep ! 2001 (load ! (from ! (stop !)) (look ! 8 refl))) (from ! (stop !)) (init ! 6 refl (rep-wt 𝓤 H A W 2001 zeroPart gz)) $
+      assigns ! (rep ! mostParts (load ! (from ! (stop !)) (look ! 8 refl))) (from ! (stop !)) (init ! 6 refl (rep-wt 𝓤 H A W mostParts zeroPart gz)) $
       assigns ! (addr ! (from ! (stop !))) (from ! (stop !)) (init ! 4 refl (tt, tt)) $
       assigns ! (agg ! (and-then ! (load ! (from ! (stop !)) (look ! 4 refl)) (and-then ! (big ! (record { fits = lit< tt })) (no-more !)))) (from ! (stop !)) (init ! 2 refl (tt, (tt, (record { fits = lit< tt }, tt)))) $
       -- the array is the row of its records, which is lent
-      move ! (6 ∷ 0 ∷ 1 ∷ []) $ use1 W (‵ (row T.the-row fullShare ys l₅ 0)) (array-row 𝓤 H A W 2001 zeroPart l₅ gz) $
+      move ! (6 ∷ 0 ∷ 1 ∷ []) $ use1 W (‵ (row T.the-row fullShare ys l₅ 0)) (array-row 𝓤 H A W mostParts zeroPart l₅ gz) $
       rewrite ! 3 (λ (k : ℕ). ‵ (fat fullShare mut-slice l₇ 0 (sliceVal (l₅, 0) k))) (sym len) refl $
       calls-lent-with ! (fmOf 𝓤 H (W .laws) 𝓣) (flft κw qw) Own (shr-slice-copy 𝓤 H A W (named 0) κw f64 .twice wref (ws ∷ [])) l₅ 0 ys (clearedOf ys) room (Quadratures 𝓤 H A at-mem run) known-quadrature
       (to-quadrature 𝓤 H A W at-mem run l₅ ys within κw qw wref lo hi) (asks-quadrature 𝓤 H A W at-mem run l₅ ys within κw qw wref lo hi glo ghi) (N′.lowered ans) (AnswerIs ans) (says-quadrature 𝓤 H A W at-mem run l₅ ys within κw qw wref lo hi)
       (λ ν δ. and-then ! (load ! (from ! (stop !)) (look ! 14 refl)) (and-then ! (load ! (from ! (stop !)) (look ! 12 refl)) (and-then ! (load ! (from ! (stop !)) (look ! 10 refl)) (and-then ! (load ! (from ! (stop !)) (look ! 3 refl)) (no-more !))))) (λ gr.
-      land ! (from ! (stop !)) (init ! 16 refl (EL.lawful N.the-type N′.the-laws 𝓤 H A W tt .typed ans _ gr .0)) $ use1 W (‵ (froom (array 2001) l₅ 0)) (row-room 𝓤 H A W 2001 (clearedOf ys) l₅ len-left) $
+      land ! (from ! (stop !)) (init ! 16 refl (EL.lawful N.the-type N′.the-laws 𝓤 H A W tt .typed ans _ gr .0)) $ use1 W (‵ (froom (array mostParts) l₅ 0)) (row-room 𝓤 H A W mostParts (clearedOf ys) l₅ len-left) $
       -- [_5; the token; what the weights own; _7; …; _6; …; _5 dies; _4; …]
       returns ! (look ! 16 refl) $ forget ! 3 refl $ forget ! 5 refl $ forget ! 8 refl $ forget ! 10 refl $ forget ! 12 refl $ forget ! 14 refl $ forget ! 16 refl $
       move ! (16 ∷ 17 ∷ []) $ free1 ! $ move ! (14 ∷ 15 ∷ []) $ free1 ! $ move ! (12 ∷ 13 ∷ []) $ free1 ! $ move ! (10 ∷ 11 ∷ []) $ free1 ! $ move ! (8 ∷ 9 ∷ []) $ free1 ! $ move ! (0 ∷ 7 ∷ []) $ free1 ! $ move ! (4 ∷ 5 ∷ []) $ free1 ! $ move ! (2 ∷ 3 ∷ []) $ free1 ! $ free0 ! $ by ! (exits gr)))))))))))

@@ -45,7 +45,7 @@ use denote.Triple.Walked.{says, Stays, stay-none, stay-none-slice, stay-slice, w
 use denote.Exit.{yes}
 use Rattle.imhof.specs.Imhof.{quadratureOf}
 use Rattle.imhof.specs.Integrand.{integrandOf}
-use Rattle.imhof.specs.Parts.{stageAfter}
+use Rattle.imhof.specs.Parts.{mostBisections, mostParts, stageAfter}
 use Rattle.imhof.specs.declared.Part.{Part}
 use Rattle.imhof.proofs.Part as T
 use Rattle.records.specs.declared.course.Course.{Course}
@@ -96,9 +96,9 @@ CourseIs c = Is K.the-row c (K′.lowered c ∷ [])
 abbrev AnswerIs : Answer → Type 0
 AnswerIs r = Is N.the-row r (N′.lowered r ∷ [])
 
--- the first 2,001 records zeros
+-- the first mostParts records zeros
 abbrev zeroed : List Part → List Part
-zeroed ys = replicate 2001 zeroPart ++ past 2001 ys
+zeroed ys = replicate mostParts zeroPart ++ past mostParts ys
 
 -- the contracts of the four callees
 module _ {M : Type 1} (𝓤 : URA M) (H : Heap 𝓤) (A : Atoms 𝓤) (mem : Memory → SProp 𝓤) (run : Routine → Fun 𝓤) where
@@ -153,7 +153,7 @@ module _ {M : Type 1} (𝓤 : URA M) (H : Heap 𝓤) (A : Atoms 𝓤) (W : Given
   abbrev to-clear : ℕ → GName → Clear 𝓤 H A mem run .Ghost
   to-clear ν δ = (((ν ∷ [], tt), (fullShare, tt), tt, (ref b o δ ys, tt), (at-list ∷ [], tt)), tt)
 
-  asks-clear : 2001 ≤ length ys → (ν : ℕ) (δ : GName) → ent 𝓤 (sep 𝓤 (A .lft (ν ∷ []) fullShare) (sem 𝓤 H A (Lent ν δ))) (Clear 𝓤 H A mem run .pre (to-clear ν δ))
+  asks-clear : mostParts ≤ length ys → (ν : ℕ) (δ : GName) → ent 𝓤 (sep 𝓤 (A .lft (ν ∷ []) fullShare) (sem 𝓤 H A (Lent ν δ))) (Clear 𝓤 H A mem run .pre (to-clear ν δ))
   asks-clear fit ν δ =
       qed W (‵ (flft (ν ∷ []) fullShare) ∷ ‵ (Lent ν δ) ∷ []) ∵ says ! fit $ nothing ! $ move ! (1 ∷ 0 ∷ []) $ join ! $ frame ! $
       nothing ! $ move ! (1 ∷ 0 ∷ []) $ fjoin ! $ done !
@@ -174,12 +174,12 @@ module _ {M : Type 1} (𝓤 : URA M) (H : Heap 𝓤) (A : Atoms 𝓤) (W : Given
     Weights = ShrSlice (named 0) κw f64 .own wref (sw ∷ [])
 
     abbrev work : Work
-    work = workAfter 2001 (integrandOf (wref .now)) lo hi ys
+    work = workAfter mostParts (integrandOf (wref .now)) lo hi ys
 
     abbrev to-refine : ℕ → GName → Refine 𝓤 H A mem run .Ghost
     to-refine ν δ = (((κw, (ν ∷ [], tt)), (qw, (fullShare, tt)), tt, (wref, (lo, (hi, (ref b o δ ys, tt)))), (sw ∷ [], (vfloat binary64 lo ∷ [], (vfloat binary64 hi ∷ [], (at-list ∷ [], tt))))), tt)
 
-    asks-refine : T (fits binary64 lo) → T (fits binary64 hi) → 2001 ≤ length ys
+    asks-refine : T (fits binary64 lo) → T (fits binary64 hi) → mostParts ≤ length ys
         → (ν : ℕ) (δ : GName) → ent 𝓤 (sep 𝓤 (sem 𝓤 H A (flft κw qw)) (sep 𝓤 (sem 𝓤 H A Weights) (sep 𝓤 (A .lft (ν ∷ []) fullShare) (sem 𝓤 H A (Lent ν δ))))) (Refine 𝓤 H A mem run .pre (to-refine ν δ))
     asks-refine glo ghi fit ν δ =
         qed W (‵ (flft κw qw) ∷ ‵ Weights ∷ ‵ (flft (ν ∷ []) fullShare) ∷ ‵ (Lent ν δ) ∷ []) ∵ says ! fit $ nothing ! $ move ! (3 ∷ 0 ∷ []) $ join ! $ move ! (1 ∷ 0 ∷ []) $ join ! $ frame ! $
@@ -222,9 +222,9 @@ module _ {M : Type 1} (𝓤 : URA M) (H : Heap 𝓤) (A : Atoms 𝓤) (W : Given
   F = integrandOf (wref .now)
 
   abbrev last : Work
-  last = workAfter 2001 F lo hi ys
+  last = workAfter mostParts F lo hi ys
 
-  exits : (r : Answer) (zs : List Part) → AnswerIs r → length zs ≡ length ys → r ≡ answerOf (length ys) (quadratureOf (stageAfter 2000 F lo hi)) → zs ≡ clearedOf ys
+  exits : (r : Answer) (zs : List Part) → AnswerIs r → length zs ≡ length ys → r ≡ answerOf (length ys) (quadratureOf (stageAfter mostBisections F lo hi)) → zs ≡ clearedOf ys
       → ent 𝓤 (⋆ 𝓤 H A (‵ (fobs γ (codedHoleys T.the-row .code (heres T.the-row zs))) ∷ ‵ (fbor κ (Held T.the-row (length zs) b o γ)) ∷ ‵ (flft κ q) ∷ ‵ (flft κw qw) ∷ ‵ Own ∷ [])) (Post (N′.lowered r))
   exits r zs gr e is-answer is-left =
       qed W (‵ (fobs γ (codedHoleys T.the-row .code (heres T.the-row zs))) ∷ ‵ (fbor κ (Held T.the-row (length zs) b o γ)) ∷ ‵ (flft κ q) ∷ ‵ (flft κw qw) ∷ ‵ Own ∷ []) ∵
@@ -251,7 +251,7 @@ module _ {M : Type 1} (𝓤 : URA M) (H : Heap 𝓤) (A : Atoms 𝓤) (W : Given
     Open zs Γ = ‵ (row T.the-row fullShare zs b o) ∷ ‵ (fobor κ q (Held T.the-row (length ys) b o γ)) ∷ ‵ (fobs γ (codedHoleys T.the-row .code (heres T.the-row ys))) ∷ ‵ (fauth γ (codedHoleys T.the-row .code (heres T.the-row ys))) ∷ ‵ (flft κw qw) ∷ ‵ Own ∷ Γ
 
     -- past the room check
-    works : 2001 ≤ length ys → Sq W (Open ys (slots (free mut-slice l₁₂ ∷ free mut-ref l₁₁ ∷ free tyUnit l₁₀ ∷ free mut-slice l₉ ∷ free mut-ref l₈ ∷ free tyBool l₇ ∷ free word l₆ ∷ free K′.mir l₅ ∷ held slice l₄ s ∷ held float l₃ (vfloat binary64 hi) ∷ held float l₂ (vfloat binary64 lo) ∷ held run-slice l₁ ws ∷ free N′.mir l₀ ∷ []))) (runs C Λ En mir.t-4 (atRet En Post))
+    works : mostParts ≤ length ys → Sq W (Open ys (slots (free mut-slice l₁₂ ∷ free mut-ref l₁₁ ∷ free tyUnit l₁₀ ∷ free mut-slice l₉ ∷ free mut-ref l₈ ∷ free tyBool l₇ ∷ free word l₆ ∷ free K′.mir l₅ ∷ held slice l₄ s ∷ held float l₃ (vfloat binary64 hi) ∷ held float l₂ (vfloat binary64 lo) ∷ held run-slice l₁ ws ∷ free N′.mir l₀ ∷ []))) (runs C Λ En mir.t-4 (atRet En Post))
     works within =
         assigns ! (addr ! (from ! (fld ! refl (hop ! (look-in ! 22 (sub ! 0 refl (whole !))) (stop !))))) (from ! (stop !)) (init ! 14 refl (tt, tt)) $
         assigns ! (agg ! (and-then ! (load ! (from ! (stop !)) (look ! 14 refl)) (and-then ! (load ! (from ! (fld ! refl (stop !))) (look-in ! 22 (sub ! 1 refl (whole !)))) (no-more !)))) (from ! (stop !)) (init ! 12 refl (tt, (tt, (record { fits = room .0 }, tt)))) $
@@ -274,20 +274,20 @@ module _ {M : Type 1} (𝓤 : URA M) (H : Heap 𝓤) (A : Atoms 𝓤) (W : Given
         -- [obs; the borrow; the token; the weights' token; what they own; _12; …]
         returns ! (look ! 29 refl) $ forget ! 5 refl $ forget ! 7 refl $ forget ! 9 refl $ forget ! 11 refl $ forget ! 13 refl $ forget ! 19 refl $ forget ! 21 refl $ forget ! 23 refl $ forget ! 25 refl $ forget ! 27 refl $ forget ! 29 refl $
         move ! (29 ∷ 30 ∷ []) $ free1 ! $ move ! (27 ∷ 28 ∷ []) $ free1 ! $ move ! (25 ∷ 26 ∷ []) $ free1 ! $ move ! (23 ∷ 24 ∷ []) $ free1 ! $ move ! (21 ∷ 22 ∷ []) $ free1 ! $ move ! (19 ∷ 20 ∷ []) $ free1 ! $ move ! (17 ∷ 18 ∷ []) $ free1 ! $ move ! (15 ∷ 16 ∷ []) $ free1 ! $ move ! (13 ∷ 14 ∷ []) $ free1 ! $ move ! (11 ∷ 12 ∷ []) $ free1 ! $ move ! (9 ∷ 10 ∷ []) $ free1 ! $ move ! (7 ∷ 8 ∷ []) $ free1 ! $ move ! (5 ∷ 6 ∷ []) $ free1 ! $ free0 ! $
-        by ! (exits answer (zeroed (last .records)) gr len-zeroed (ap Found (same-answer F lo hi ys within) ∙ answer-found (length ys) (quadratureOf (stageAfter 2000 F lo hi)) within)
-        (ap (λ (l : List Part). replicate 2001 zeroPart ++ l) (beyond-work F lo hi ys 2001) ∙ left-cleared ys within)))))
+        by ! (exits answer (zeroed (last .records)) gr len-zeroed (ap Found (same-answer F lo hi ys within) ∙ answer-found (length ys) (quadratureOf (stageAfter mostBisections F lo hi)) within)
+        (ap (λ (l : List Part). replicate mostParts zeroPart ++ l) (beyond-work F lo hi ys mostParts) ∙ left-cleared ys within)))))
       where
         answer : Answer
         answer = Found (foundOf (last .course))
 
         len : length (last .records) ≡ length ys
-        len = length-work F lo hi ys 2001
+        len = length-work F lo hi ys mostParts
 
-        long : 2001 ≤ length (last .records)
-        long = subst (λ (m : ℕ). 2001 ≤ m) (sym len) within
+        long : mostParts ≤ length (last .records)
+        long = subst (λ (m : ℕ). mostParts ≤ m) (sym len) within
 
         len-zeroed : length (zeroed (last .records)) ≡ length ys
-        len-zeroed = length-cleared zeroPart (last .records) 2001 long ∙ len
+        len-zeroed = length-cleared zeroPart (last .records) mostParts long ∙ len
 
     starts : Sq W (Open ys (slots (free mut-slice l₁₂ ∷ free mut-ref l₁₁ ∷ free tyUnit l₁₀ ∷ free mut-slice l₉ ∷ free mut-ref l₈ ∷ free tyBool l₇ ∷ free word l₆ ∷ free K′.mir l₅ ∷ held slice l₄ s ∷ held float l₃ (vfloat binary64 hi) ∷ held float l₂ (vfloat binary64 lo) ∷ held run-slice l₁ ws ∷ free N′.mir l₀ ∷ []))) (runs C Λ En mir.t-1 (atRet En Post))
     starts =
@@ -299,8 +299,8 @@ module _ {M : Type 1} (𝓤 : URA M) (H : Heap 𝓤) (A : Atoms 𝓤) (W : Given
         closes-slice ! tt T.the-row ys ys refl b o $
         returns-within ! Post refl (look ! 29 refl) $ forget ! 15 refl $ forget ! 17 refl $ forget ! 21 refl $ forget ! 23 refl $ forget ! 25 refl $ forget ! 27 refl $ forget ! 29 refl $
         move ! (29 ∷ 30 ∷ []) $ free1 ! $ move ! (27 ∷ 28 ∷ []) $ free1 ! $ move ! (25 ∷ 26 ∷ []) $ free1 ! $ move ! (23 ∷ 24 ∷ []) $ free1 ! $ move ! (21 ∷ 22 ∷ []) $ free1 ! $ move ! (19 ∷ 20 ∷ []) $ free1 ! $ move ! (17 ∷ 18 ∷ []) $ free1 ! $ move ! (15 ∷ 16 ∷ []) $ free1 ! $ move ! (13 ∷ 14 ∷ []) $ free1 ! $ move ! (11 ∷ 12 ∷ []) $ free1 ! $ move ! (9 ∷ 10 ∷ []) $ free1 ! $ move ! (7 ∷ 8 ∷ []) $ free1 ! $ move ! (5 ∷ 6 ∷ []) $ free1 ! $ free0 ! $
-        by ! (exits RoomShort ys gr refl (answer-short (length ys) (quadratureOf (stageAfter 2000 F lo hi)) (ltb→lt (length ys) 2001 less)) (left-short ys (ltb→lt (length ys) 2001 less)))))
-        (λ over. skips ! $ exec ! C Λ En mir.t-4 (atRet En Post) $ forget ! 18 refl $ forget ! 16 refl $ works (nltb→le (length ys) 2001 over))
+        by ! (exits RoomShort ys gr refl (answer-short (length ys) (quadratureOf (stageAfter mostBisections F lo hi)) (ltb→lt (length ys) mostParts less)) (left-short ys (ltb→lt (length ys) mostParts less)))))
+        (λ over. skips ! $ exec ! C Λ En mir.t-4 (atRet En Post) $ forget ! 18 refl $ forget ! 16 refl $ works (nltb→le (length ys) mostParts over))
 
   walk : (𝓣 : Tables 𝓤 H) (known-refine : Triple 𝓤 (𝓣 .C #records·refine) (Refine 𝓤 H A at-mem run)) (known-clear : Triple 𝓤 (𝓣 .C #records·clear) (Clear 𝓤 H A at-mem run)) (known-room-short : Triple 𝓤 (𝓣 .C #records·course·room-short) (RoomShorts 𝓤 H A at-mem run)) (known-found : Triple 𝓤 (𝓣 .C #records·course·found) (Founds 𝓤 H A at-mem run)) → ent 𝓤 (onEntry 𝓤 H A f.signature (κw, (κ, tt)) (qw, (q, tt)) a at) (WpFn 𝓤 H (𝓣 .C) (𝓣 .Λ) code.function (ws ∷ vfloat binary64 lo ∷ vfloat binary64 hi ∷ s ∷ []) Post)
   walk 𝓣 known-refine known-clear known-room-short known-found =

@@ -3,7 +3,7 @@
 use mathlib.Core.Path.{_≡_, refl, sym, ap, subst}
 use mathlib.Core.Bool.{Bool, true, false, not}
 use mathlib.Core.List.{List, [], _∷_}
-use Prim.Native.Nat.{ℕ, _+_, _-_, _<_, _≤_, _^_}
+use Prim.Native.Nat.{ℕ, _+_, _-_, _*_, _<_, _≤_, _^_}
 use native.Mathlib.Omega.{arith}
 use native.Mathlib.Numerals.{add-one-le, add-one-dec}
 use mathlib.Core.WellFounded.{WellFounded, InvImage·wf}
@@ -50,6 +50,8 @@ use denote.Triple.Walked.{says, needs, Stays, stay-none, stay-none-slice, stay-s
 use denote.Exit.{yes}
 use Rattle.imhof.specs.Integrand.{integrandOf}
 use Rattle.imhof.specs.declared.Part.{Part}
+use Rattle.imhof.specs.Parts.{mostParts}
+use Rattle.imhof.specs.Rule.{ruleSize}
 use Rattle.imhof.proofs.Part as T
 use Rattle.imhof.proofs.Part.Laws as T′
 use Rattle.records.specs.declared.course.Look.{Look}
@@ -150,7 +152,7 @@ module _ {M : Type 1} (𝓤 : URA M) (H : Heap 𝓤) (A : Atoms 𝓤) (W : Given
   abbrev to-turned : Course → Look → ℕ → Turned 𝓤 H A mem run .Ghost
   to-turned c l n = (((κw, tt), (qw, tt), tt, (wref, (c, (l, (n, tt)))), (sw ∷ [], (K′.lowered c ∷ [], (L′.lowered l ∷ [], (vint w64 n ∷ [], tt))))), tt)
 
-  asks-turned : (c : Course) (l : Look) (n : ℕ) → CourseIs c → LookIs l → n < 2 ^ 64 → (c .tally .bisections + 1 < 2 ^ 64) × (c .tally .evaluations + 30 < 2 ^ 64) → ent 𝓤 (sep 𝓤 (sem 𝓤 H A (flft κw qw)) (sem 𝓤 H A Lent)) (Turned 𝓤 H A mem run .pre (to-turned c l n))
+  asks-turned : (c : Course) (l : Look) (n : ℕ) → CourseIs c → LookIs l → n < 2 ^ 64 → (c .tally .bisections + 1 < 2 ^ 64) × (c .tally .evaluations + 2 * ruleSize < 2 ^ 64) → ent 𝓤 (sep 𝓤 (sem 𝓤 H A (flft κw qw)) (sem 𝓤 H A Lent)) (Turned 𝓤 H A mem run .pre (to-turned c l n))
   asks-turned c l n gc gl gn fit =
       qed W (‵ (flft κw qw) ∷ ‵ Lent ∷ []) ∵ says ! fit $ nothing ! $ move ! (1 ∷ 0 ∷ []) $ join ! $ frame ! $
       nothing ! $ owned ! usize (Is usize) (uint-makes 𝓤 H A W w64) n _ (refl, gn) $ fjoin ! $ owned ! L.the-row (Is L.the-row) ((LL.makes L.the-type L′.the-plain) 𝓤 H A) l _ gl $ fjoin ! $ owned ! K.the-row (Is K.the-row) ((LL.makes K.the-type K′.the-plain) 𝓤 H A) c _ gc $ fjoin ! $ move ! (1 ∷ 0 ∷ []) $ fjoin ! $ done !
@@ -201,7 +203,7 @@ module _ {M : Type 1} (𝓤 : URA M) (H : Heap 𝓤) (A : Atoms 𝓤) (W : Given
         move ! (3 ∷ []) $ split ! $ split ! $ move ! (2 ∷ []) $ feqL ! (λ is. at-once ! $ frame ! $ move ! (1 ∷ []) $ frame ! $ by ! (factI 𝓤 _ _ (ap only is, tt))))))
 
 module _ {M : Type 1} (𝓤 : URA M) (H : Heap 𝓤) (A : Atoms 𝓤) (W : Given 𝓤 H A) (at-mem : Memory → SProp 𝓤) (run : Routine → Fun 𝓤) (κw : Lft) (qw : Share) (κ : Lft) (q : Share) (wref : RefT (List Float)) (lo hi : Float) (b o : ℕ) (γ : GName) (ys : List Part)
-    (w-room : Room f64 (length (wref .now))) (glo : T (fits binary64 lo)) (ghi : T (fits binary64 hi)) (room : Room T.the-row (length ys)) (within : 2001 ≤ length ys) where
+    (w-room : Room f64 (length (wref .now))) (glo : T (fits binary64 lo)) (ghi : T (fits binary64 hi)) (room : Room T.the-row (length ys)) (within : mostParts ≤ length ys) where
   abbrev a : RefT (List Float) × (Float × (Float × (RefT (List Part) × Unit {0})))
   a = (wref, (lo, (hi, (ref b o γ ys, tt))))
 
@@ -224,7 +226,7 @@ module _ {M : Type 1} (𝓤 : URA M) (H : Heap 𝓤) (A : Atoms 𝓤) (W : Given
   F = integrandOf (wref .now)
 
   abbrev last : Work
-  last = workAfter 2001 F lo hi ys
+  last = workAfter mostParts F lo hi ys
 
   exits : (c : Course) (zs : List Part) → CourseIs c → length zs ≡ length ys → c ≡ last .course → zs ≡ last .records
       → ent 𝓤 (⋆ 𝓤 H A (‵ (fobs γ (codedHoleys T.the-row .code (heres T.the-row zs))) ∷ ‵ (fbor κ (Held T.the-row (length zs) b o γ)) ∷ ‵ (flft κ q) ∷ ‵ (flft κw qw) ∷ ‵ Own ∷ [])) (Post (K′.lowered c))
@@ -238,13 +240,13 @@ module _ {M : Type 1} (𝓤 : URA M) (H : Heap 𝓤) (A : Atoms 𝓤) (W : Given
 
   -- k turns are done, and what is known of the course
   abbrev Upto : Type 0
-  Upto = (k : ℕ) × (k + 1 ≤ 2001) × CourseIs (workAfter k F lo hi ys .course)
+  Upto = (k : ℕ) × (k + 1 ≤ mostParts) × CourseIs (workAfter k F lo hi ys .course)
 
   abbrev Nearer : Upto → Upto → Type 0
-  Nearer j k = 2001 - (j .0 + 1) < 2001 - (k .0 + 1)
+  Nearer j k = mostParts - (j .0 + 1) < mostParts - (k .0 + 1)
 
   Nearer-wf : WellFounded Nearer
-  Nearer-wf = InvImage·wf (λ (k : Upto). 2001 - (k .0 + 1)) (Nat·lt-wfRel .wf)
+  Nearer-wf = InvImage·wf (λ (k : Upto). mostParts - (k .0 + 1)) (Nat·lt-wfRel .wf)
 
   -- the course and the records after k turns, and the course after the next
   abbrev X : Upto → Course
@@ -312,15 +314,15 @@ module _ {M : Type 1} (𝓤 : URA M) (H : Heap 𝓤) (A : Atoms 𝓤) (W : Given
         assigns-last ! (bin ! (load ! (from ! (stop !)) (look ! 22 refl)) (lit ! tt) (record { fits = next-fits })) (from ! (stop !)) (store ! 22 refl (tt, record { fits = next-fits })) $
         rewrite ! 0 (λ (l : List Part). ‵ (row T.the-row fullShare l b o)) (next-records F lo hi ys (k .0) yes-more) refl $
         rewrite ! 24 (λ (c : Course). ‵ (fat fullShare K′.mir l₅ 0 (K′.lowered c))) (next-course F lo hi ys (k .0)) refl $
-        forget ! 10 refl $ forget ! 8 refl $ forget ! 6 refl $ again ! Nearer At k (k .0 + 1, add-one-le space, subst CourseIs (next-course F lo hi ys (k .0)) gd) (add-one-dec 2001 (k .0 + 1) space))
+        forget ! 10 refl $ forget ! 8 refl $ forget ! 6 refl $ again ! Nearer At k (k .0 + 1, add-one-le space, subst CourseIs (next-course F lo hi ys (k .0)) gd) (add-one-dec mostParts (k .0 + 1) space))
       where
         zs : List Part
         zs = splitOf (Y k) (k .0 + 1) (D k .worst) (D k .left) (D k .right)
 
-        told : (k .0 + 1 < 2001) × (D k .worst ≡ (lookOf (Y k) (k .0 + 1)) .worst)
+        told : (k .0 + 1 < mostParts) × (D k .worst ≡ (lookOf (Y k) (k .0 + 1)) .worst)
         told = turned-more F (lookOf (Y k) (k .0 + 1)) (X k) (k .0 + 1) yes-more
 
-        space : k .0 + 1 < 2001
+        space : k .0 + 1 < mostParts
         space = told .0
 
         n-fits : k .0 + 1 < 2 ^ 64
@@ -392,7 +394,7 @@ module _ {M : Type 1} (𝓤 : URA M) (H : Heap 𝓤) (A : Atoms 𝓤) (W : Given
   walks : Walks 𝓤 H A f.ended stayed (WpFn 𝓤 H (𝓣 .C) (𝓣 .Λ) code.function) (f.clauses 𝓤 H A at-mem run)
   walks = walked 𝓤 H A f.ended stayed (f.clauses 𝓤 H A at-mem run) (WpFn 𝓤 H (𝓣 .C) (𝓣 .Λ) code.function)
       (λ κs. (slice-vals, (float-vals binary64, (float-vals binary64, (slice-vals, tt))))) (λ κs. (shr-slice-tells (named 0) (κs .0) f64, (float-tells binary64, (float-tells binary64, (mut-slice-tells (named 1) (κs .1 .0) T.the-row, tt)))))
-      (λ κs qs bounds a g are. needs 𝓤 (2001 ≤ length (a .1 .1 .1 .0 .now)) _ (λ within.
+      (λ κs qs bounds a g are. needs 𝓤 (mostParts ≤ length (a .1 .1 .1 .0 .now)) _ (λ within.
       walk 𝓤 H A W at-mem run (κs .0) (qs .0) (κs .1 .0) (qs .1 .0) (a .0) (a .1 .0) (a .1 .1 .0) (a .1 .1 .1 .0 .ptr .0) (a .1 .1 .1 .0 .ptr .1) (a .1 .1 .1 .0 .name) (a .1 .1 .1 .0 .now)
       (are .0 .0 .1) (passes _ (are .1 .0 .1)) (passes _ (are .1 .1 .0 .1)) (are .1 .1 .1 .0 .0 .1) within 𝓣 known-start known-survey known-turned known-split))
 

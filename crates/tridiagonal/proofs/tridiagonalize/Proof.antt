@@ -1,4 +1,5 @@
 -- After c turns `a` holds the lower triangle of c reflections of the whole matrix. Assumes nothing.
+use Rattle.floats.specs.Limits.{maxRows}
 use Rattle.floats.specs.Turns.{turns}
 use Rattle.floats.specs.Matrix.{whole, halfOf}
 use Rattle.tridiagonal.specs.Reflection.{reflected}
@@ -14,7 +15,7 @@ use Rattle.tridiagonal.proofs.tridiagonalize.Tie as tie
 
 abbrev Inv-loop : tie.InvT-loop
 Inv-loop a₀ n v₀ p₀ c₀ c-end a v p c =
-    (c ≤ n - 2) × (c-end ≡ n - 2) × (length a ≡ length a₀) × (a ≡ halfOf n (turns c (reflected n) (whole n a₀))) × (length v ≡ 256) × (length p ≡ 256)
+    (c ≤ n - 2) × (c-end ≡ n - 2) × (length a ≡ length a₀) × (a ≡ halfOf n (turns c (reflected n) (whole n a₀))) × (length v ≡ maxRows) × (length p ≡ maxRows)
 
 abbrev μ-loop : tie.MeasureT-loop
 μ-loop a₀ n v₀ p₀ c₀ c-end a v p c = (n - 2) - c
@@ -26,7 +27,7 @@ loop-holds : tie.Need-loop-holds Inv-loop μ-loop
 loop-holds c = (omega arith, refl, refl, reflections-none _ _ (c .before .before .pre .0), search needs, search needs)
 
 reflect-requires : tie.Need-reflect-requires Inv-loop μ-loop
-reflect-requires c κs = (search needs, search needs, search needs, simp length-take (omega arith), simp length-take (omega arith))
+reflect-requires c κs = (search needs, search needs, simp length-take (omega arith), simp length-take (omega arith))
 
 loop-again : tie.Need-loop-again Inv-loop μ-loop
 loop-again c =

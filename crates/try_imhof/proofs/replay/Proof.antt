@@ -4,7 +4,7 @@ use borrow.Author.Needs.{needs}
 use Rattle.try_imhof.proofs.replay.Statement.{statement}
 use Rattle.try_imhof.proofs.replay.Tie as tie
 
--- count ≤ 256, so there are no more numbers than that
+-- count ≤ maxRows, so there are no more numbers than that
 ending-of-requires : tie.Need-ending-of-requires
 ending-of-requires c κs = simp length-take (omega arith)
 

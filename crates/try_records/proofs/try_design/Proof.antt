@@ -6,7 +6,7 @@ use Rattle.try_records.proofs.try_design.Statement.{statement}
 use Rattle.try_records.proofs.try_design.Tie as tie
 
 try-sound-requires : tie.Need-try-sound-requires
-try-sound-requires c κs = let s = sound-columns (c .before .before .before .before .args .columns .now) (c .before .before .before .before .args .n) (c .before .before .before .before .args .k) (sym (c .before .before .check-columns .ensures) ∙ c .enum-told .given .1) in (s .columns, s .size)
+try-sound-requires c κs = (sound-columns (c .before .before .before .before .before .args .columns .now) (c .before .before .before .before .before .args .n) (c .before .before .before .before .before .args .k) (sym (c .before .before .before .check-columns .ensures) ∙ c .before .found .given .1)) .design
 
 pub try-design-spec : {M : Type 1} → statement M
 try-design-spec =

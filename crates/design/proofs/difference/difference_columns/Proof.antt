@@ -11,25 +11,25 @@ use Rattle.design.proofs.difference.difference_columns.Statement.{state
 use Rattle.design.proofs.difference.difference_columns.Tie as tie
 
 abbrev Inv-loop : tie.InvT-loop
-Inv-loop columns n k differences₀ j₀ differences j = (j ≤ k) × (length differences ≡ length differences₀) × Differences columns n j differences
+Inv-loop columns differences₀ n k j₀ differences j = (j ≤ k) × (length differences ≡ length differences₀) × Differences columns n j differences
 
 abbrev μ-loop : tie.MeasureT-loop
-μ-loop columns n k differences₀ j₀ differences j = k - j
+μ-loop columns differences₀ n k j₀ differences j = k - j
 
 mul-difference-column : tie.Need-mul-difference-column Inv-loop μ-loop
-mul-difference-column c = omega (arith, row-in (c .before .before .before .before .args .n) (c .loop-test .taken))
+mul-difference-column c = omega (arith, row-in (c .before .before .before .before .args .size .rows) (c .loop-test .taken))
 
 difference-column-requires : tie.Need-difference-column-requires Inv-loop μ-loop
-difference-column-requires c κs = omega (arith, row-in (c .before .before .before .before .before .args .n) (c .before .loop-test .taken))
+difference-column-requires c κs = omega (arith, row-in (c .before .before .before .before .before .args .size .rows) (c .before .loop-test .taken))
 
 loop-again : tie.Need-loop-again Inv-loop μ-loop
 loop-again c =
     let a = c .before .before .before .before .before .before .before .before .args in
     let w = c .before .before .before .before .before .loop in
-    let h = row-in (a .n) (c .before .before .before .before .loop-test .taken) in (omega arith, c .before .before .difference-column .kept .1 .1 .1 .0 ∙ w .inv .1, rw (c .before .before .difference-column .ensures) (differences-more (a .columns .now) (w .differences) (a .n) (w .j) (omega arith) (w .inv .2)))
+    let h = row-in (a .size .rows) (c .before .before .before .before .loop-test .taken) in (omega arith, c .before .before .difference-column .kept .1 .1 .1 .0 ∙ w .inv .1, rw (c .before .before .difference-column .ensures) (differences-more (a .columns .now) (w .differences) (a .size .rows) (w .j) (omega arith) (w .inv .2)))
 
 returns : tie.Need-returns Inv-loop μ-loop
-returns c = let h : c .before .loop .j ≡ c .before .before .before .before .args .k = omega arith in (c .before .loop .inv .1, rw h at (c .before .loop .inv .2))
+returns c = let h : c .before .loop .j ≡ c .before .before .before .before .args .size .columns = omega arith in (c .before .loop .inv .1, rw h at (c .before .loop .inv .2))
 
 pub difference-columns-spec : {M : Type 1} → statement M
 difference-columns-spec =

@@ -10,21 +10,21 @@ use Rattle.design.proofs.traces.cross_row.Statement.{statement}
 use Rattle.design.proofs.traces.cross_row.Tie as tie
 
 abbrev Inv-loop : tie.InvT-loop
-Inv-loop u v n k i row₀ j₀ row j = (j ≤ k) × (row ≡ fill (λ j. sumProducts u (i * n) v (j * n) n) j zeroRow)
+Inv-loop u v i n k row₀ j₀ row j = (j ≤ k) × (row ≡ fill (λ j. sumProducts u (i * n) v (j * n) n) j zeroRow)
 
 abbrev μ-loop : tie.MeasureT-loop
-μ-loop u v n k i row₀ j₀ row j = k - j
+μ-loop u v i n k row₀ j₀ row j = k - j
 
 column-products-requires : tie.Need-column-products-requires Inv-loop μ-loop
 column-products-requires c κs =
     let a = c .before .before .before .before .args in
-    omega (arith, row-in (a .n) (c .loop-test .taken), row-in (a .n) {i = a .i} {k = a .k} (omega arith))
+    omega (arith, row-in (a .size .rows) (c .loop-test .taken), row-in (a .size .rows) {i = a .i} {k = a .size .columns} (omega arith))
 
 loop-again : tie.Need-loop-again Inv-loop μ-loop
 loop-again c = (omega arith, rw (c .column-products .ensures, c .before .before .loop .inv .1) (sym (fill-more _ (c .before .before .loop .j) zeroRow)))
 
 returns : tie.Need-returns Inv-loop μ-loop
-returns c = let h : c .before .loop .j ≡ c .before .before .before .before .args .k = omega arith in rw (c .before .loop .inv .1, h) (fill-row (c .before .before .before .before .args .k) _)
+returns c = let h : c .before .loop .j ≡ c .before .before .before .before .args .size .columns = omega arith in rw (c .before .loop .inv .1, h) (fill-row (c .before .before .before .before .args .size .columns) _)
 
 pub cross-row-spec : {M : Type 1} → statement M
 cross-row-spec =

@@ -2,7 +2,7 @@ use Rattle.imhof.proofs.HeldLaws.{first-refused, from-first, over-first
 use Rattle.imhof.specs.declared.Standing.the-variants.{Open}
 use Rattle.imhof.specs.Imhof.{quadratureOf}
 use Rattle.imhof.specs.Room.{stored, partsIn, laidOut}
-use Rattle.imhof.specs.Parts.{stage, finitePart, oneRule, nextStage, stageAfter}
+use Rattle.imhof.specs.Parts.{mostBisections, stage, finitePart, oneRule, nextStage, stageAfter}
 use Rattle.imhof.specs.Rule.{gk15Of}
 use Rattle.imhof.specs.Integrand.{integrandOf}
 use Rattle.floats.specs.Count.{noWork}
@@ -33,8 +33,8 @@ returns-2 c =
     let r = c .before .before .before .before .before .before .before .before .before .before .before .before .before .args .parts .now in
     let at : c .before .before .before .before .before .before .put .last .0 ≡ stored 0 (gk15Of f (c .before .before .before .before .before .before .before .before .before .before .before .before .before .args .lo) (c .before .before .before .before .before .before .before .before .before .before .before .before .before .args .hi)) r = c .before .before .before .before .before .before .put .ensures ∙ ap (λ p. stored 0 p r) (c .before .before .before .before .before .before .before .before .before .before .gk15 .ensures) in
     let fine : finitePart (gk15Of f (c .before .before .before .before .before .before .before .before .before .before .before .before .before .args .lo) (c .before .before .before .before .before .before .before .before .before .before .before .before .before .args .hi)) ≡ true = ap finitePart (sym (c .before .before .before .before .before .before .before .before .before .before .gk15 .ensures)) ∙ sym (c .before .before .before .before .before .before .before .before .before .is-finite-part .ensures) ∙ not-false (c .before .before .before .before .before .before .before .before .before .is-finite-part .result) (c .before .before .before .before .before .before .before .before .if1 .left) in
-    let e : turns 2000 (λ t. nextStage f) (stage (partsIn 1 (c .before .before .before .before .before .before .put .last .0)) (oneRule noWork) Open) ≡ stageAfter 2000 f (c .before .before .before .before .before .before .before .before .before .before .before .before .before .args .lo) (c .before .before .before .before .before .before .before .before .before .before .before .before .before .args .hi) = rw at (from-first f (c .before .before .before .before .before .before .before .before .before .before .before .before .before .args .lo) (c .before .before .before .before .before .before .before .before .before .before .before .before .before .args .hi) r (c .before .before .before .before .before .before .before .before .before .before .before .before .before .pre) fine) in
-    (c .before .before .refine .ensures .0 ∙ ap quadratureOf e, c .before .before .refine .ensures .1 ∙ ap (λ s. laidOut (s .parts) (c .before .before .before .before .before .before .put .last .0)) e ∙ ap (laidOut (stageAfter 2000 f (c .before .before .before .before .before .before .before .before .before .before .before .before .before .args .lo) (c .before .before .before .before .before .before .before .before .before .before .before .before .before .args .hi) .parts)) at ∙ over-first f (c .before .before .before .before .before .before .before .before .before .before .before .before .before .args .lo) (c .before .before .before .before .before .before .before .before .before .before .before .before .before .args .hi) r (c .before .before .before .before .before .before .before .before .before .before .before .before .before .pre) fine)
+    let e : turns mostBisections (λ t. nextStage f) (stage (partsIn 1 (c .before .before .before .before .before .before .put .last .0)) (oneRule noWork) Open) ≡ stageAfter mostBisections f (c .before .before .before .before .before .before .before .before .before .before .before .before .before .args .lo) (c .before .before .before .before .before .before .before .before .before .before .before .before .before .args .hi) = rw at (from-first f (c .before .before .before .before .before .before .before .before .before .before .before .before .before .args .lo) (c .before .before .before .before .before .before .before .before .before .before .before .before .before .args .hi) r (c .before .before .before .before .before .before .before .before .before .before .before .before .before .pre) fine) in
+    (c .before .before .refine .ensures .0 ∙ ap quadratureOf e, c .before .before .refine .ensures .1 ∙ ap (λ s. laidOut (s .parts) (c .before .before .before .before .before .before .put .last .0)) e ∙ ap (laidOut (stageAfter mostBisections f (c .before .before .before .before .before .before .before .before .before .before .before .before .before .args .lo) (c .before .before .before .before .before .before .before .before .before .before .before .before .before .args .hi) .parts)) at ∙ over-first f (c .before .before .before .before .before .before .before .before .before .before .before .before .before .args .lo) (c .before .before .before .before .before .before .before .before .before .before .before .before .before .args .hi) r (c .before .before .before .before .before .before .before .before .before .before .before .before .before .pre) fine)
 
 pub integrate-spec : {M : Type 1} → statement M
 integrate-spec =

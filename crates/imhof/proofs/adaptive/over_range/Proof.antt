@@ -1,7 +1,7 @@
 use Rattle.imhof.proofs.HeldLaws.{laid-none}
 use Rattle.imhof.specs.Imhof.{quadratureOf, lastStage, lastStageBy}
 use Rattle.imhof.specs.Room.{laidOut}
-use Rattle.imhof.specs.Parts.{stageAfter}
+use Rattle.imhof.specs.Parts.{mostBisections, stageAfter}
 use Rattle.imhof.specs.Integrand.{integrandOf}
 use Rattle.imhof.specs.Range.{lowEnd, highEnd}
 use lib.Ieee.Scale.{finite}
@@ -15,8 +15,8 @@ use Rattle.imhof.proofs.adaptive.over_range.Tie as tie
 returns : tie.Need-returns
 returns c = let ws = c .before .before .before .before .before .before .before .before .before .before .before .before .args .weights .now in
     let fine : finite (lowEnd ws) && finite (highEnd ws) ≡ true = rw (← c .before .before .before .before .before .before .before .before .before .low-end .ensures, ← c .before .before .before .before .before .before .before .before .high-end .ensures, ← c .before .before .before .before .before .before .before .is-finite .ensures, c .before .before .before .before .before .before .if1 .taken, ← c .before .before .before .before .before .is-finite2 .ensures, c .before .before .before .before .if2 .taken) in
-    let e : stageAfter 2000 (integrandOf ws) (c .before .before .before .before .before .before .before .before .before .low-end .result) (c .before .before .before .before .before .before .before .before .high-end .result) ≡ lastStage ws =
-    ap₂ (stageAfter 2000 (integrandOf ws)) (c .before .before .before .before .before .before .before .before .before .low-end .ensures) (c .before .before .before .before .before .before .before .before .high-end .ensures) ∙ ap (λ b. lastStageBy b ws) (sym fine) in
+    let e : stageAfter mostBisections (integrandOf ws) (c .before .before .before .before .before .before .before .before .before .low-end .result) (c .before .before .before .before .before .before .before .before .high-end .result) ≡ lastStage ws =
+    ap₂ (stageAfter mostBisections (integrandOf ws)) (c .before .before .before .before .before .before .before .before .before .low-end .ensures) (c .before .before .before .before .before .before .before .before .high-end .ensures) ∙ ap (λ b. lastStageBy b ws) (sym fine) in
     (c .before .before .integrate .ensures .0 ∙ ap quadratureOf e, c .before .before .integrate .ensures .1 ∙ ap (λ s. laidOut (s .parts) (c .before .before .before .before .before .before .before .before .before .before .before .before .args .parts .now)) e)
 
 returns-2 : tie.Need-returns-2

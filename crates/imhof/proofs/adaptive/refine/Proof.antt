@@ -4,9 +4,10 @@ use Rattle.imhof.specs.declared.Quadrature.the-variants.{Sum}
 use Rattle.imhof.specs.declared.Standing.the-variants.{Open, Refused}
 use Rattle.imhof.specs.Imhof.{quadratureOf}
 use Rattle.imhof.specs.Integrand.{integrandOf}
-use Rattle.imhof.specs.Parts.{Stage, stage, oneRule}
-use Rattle.imhof.specs.Room.{partsIn}
-use Rattle.floats.specs.Count.{noWork, evaluated}
+use Rattle.imhof.specs.Parts.{mostParts, Stage, stage, oneRule}
+use Rattle.imhof.specs.Room.{PartRoom, partsIn}
+use Rattle.imhof.specs.Rule.{ruleSize}
+use Rattle.floats.specs.Count.{noWork}
 use Rattle.imhof.proofs.HeldLaws.{Held, Answered, held-first, held-next, held-all, held-settled, held-refused, ended-laid, answer-open, answer-settled}
 use lib.Dec.{lit<}
 use mathlib.Core.Logic.{⊎-elim}
@@ -24,15 +25,15 @@ abbrev first : List Float → Stage
 first r = stage (partsIn 1 r) (oneRule noWork) Open
 
 abbrev Inv-loop : tie.InvT-loop
-Inv-loop weights parts₀ tally₀ n₀ parts tally n = (0 < n) × (n ≤ 2001) × (length parts ≡ length parts₀) × (8004 ≤ length parts₀) × (tally .bisections + 1 ≡ n) × (tally .evaluations + 15 ≡ 30 * n) × Held (integrandOf weights) (first parts₀) parts₀ parts tally n
+Inv-loop weights parts₀ tally₀ n₀ parts tally n = (0 < n) × (n ≤ mostParts) × (length parts ≡ length parts₀) × PartRoom parts₀ × (tally .bisections + 1 ≡ n) × (tally .evaluations + ruleSize ≡ 2 * ruleSize * n) × Held (integrandOf weights) (first parts₀) parts₀ parts tally n
 
 abbrev μ-loop : tie.MeasureT-loop
-μ-loop weights parts₀ tally₀ n₀ parts tally n = 2001 - n
+μ-loop weights parts₀ tally₀ n₀ parts tally n = mostParts - n
 
 loop-holds : tie.Need-loop-holds Inv-loop μ-loop
 loop-holds c = let r = c .before .before .before .before .args .parts .now in
-    let work : c .evaluated .result ≡ oneRule noWork = c .evaluated .ensures ∙ ap (evaluated 15) (c .before .new .ensures) in
-    (omega arith, omega arith, refl, c .before .before .before .before .pre, ap (λ t. t .bisections + 1) work, ap (λ t. t .evaluations + 15) work, rw work (held-first (integrandOf (c .before .before .before .before .args .weights .now)) r (oneRule noWork)))
+    let work : c .evaluated .result ≡ oneRule noWork = c .evaluated .ensures ∙ ap oneRule (c .before .new .ensures) in
+    (omega arith, omega arith, refl, c .before .before .before .before .pre, ap (λ t. t .bisections + 1) work, ap (λ t. t .evaluations + ruleSize) work, rw work (held-first (integrandOf (c .before .before .before .before .args .weights .now)) r (oneRule noWork)))
 
 advance-requires : tie.Need-advance-requires Inv-loop μ-loop
 advance-requires c κs = (c .before .before .loop .inv .0, c .before .loop-test .taken, omega (arith, c .before .before .loop .inv .2, c .before .before .loop .inv .3))
@@ -53,7 +54,7 @@ loop-again : tie.Need-loop-again Inv-loop μ-loop
 loop-again c = let f = integrandOf (c .before .before .before .before .before .before .before .before .before .before .before .before .before .args .weights .now) in
     let r = c .before .before .before .before .before .before .before .before .before .before .before .before .before .args .parts .now in
     let next = held-next f (first r) r (c .before .before .before .before .before .before .before .before .loop .parts) (c .before .before .before .before .before .before .before .before .loop .tally) (c .before .before .before .before .before .before .before .before .loop .n) (c .before .before .before .before .before .before .before .before .loop .inv .0) (c .before .before .before .before .before .before .before .loop-test .taken) (omega (arith, c .before .before .before .before .before .before .before .before .loop .inv .2, c .before .before .before .before .before .before .before .before .loop .inv .3)) (c .before .before .before .before .before .before .before .before .loop .inv .6) (c .before .before .before .before .before .advance .last .1 .0) (sym (c .before .enum-told .given .1) ∙ c .before .before .before .before .before .advance .ensures .0 (c .before .before .before .before .before .before .before .before .loop .tally)) (c .before .before .before .before .before .advance .ensures .1 (c .before .before .before .before .before .before .before .before .loop .tally)) in
-    (omega arith, omega (arith, c .before .before .before .before .before .before .before .loop-test .taken), c .before .before .before .before .before .advance .kept .1 .0 ∙ c .before .before .before .before .before .before .before .before .loop .inv .2, c .before .before .before .before .before .before .before .before .loop .inv .3, ap (λ t. t .bisections + 1) (c .with-bisection .ensures) ∙ ap (λ n. n + 1) (c .before .before .before .before .before .before .before .before .loop .inv .4), ap (λ t. t .evaluations + 15) (c .with-bisection .ensures) ∙ omega (arith, c .before .before .before .before .before .before .before .before .loop .inv .5), subst (λ u. Held f (first r) r (c .before .before .before .before .before .advance .last .1 .0) u (c .before .before .before .before .before .before .before .before .loop .n + 1)) (sym (c .with-bisection .ensures)) next)
+    (omega arith, omega (arith, c .before .before .before .before .before .before .before .loop-test .taken), c .before .before .before .before .before .advance .kept .1 .0 ∙ c .before .before .before .before .before .before .before .before .loop .inv .2, c .before .before .before .before .before .before .before .before .loop .inv .3, ap (λ t. t .bisections + 1) (c .with-bisection .ensures) ∙ ap (λ n. n + 1) (c .before .before .before .before .before .before .before .before .loop .inv .4), ap (λ t. t .evaluations + ruleSize) (c .with-bisection .ensures) ∙ omega (arith, c .before .before .before .before .before .before .before .before .loop .inv .5), subst (λ u. Held f (first r) r (c .before .before .before .before .before .advance .last .1 .0) u (c .before .before .before .before .before .before .before .before .loop .n + 1)) (sym (c .with-bisection .ensures)) next)
 
 total-requires : tie.Need-total-requires Inv-loop μ-loop
 total-requires c κs = let kept : length (c .before .loop-test .parts) ≡ length (c .before .before .before .before .before .before .before .args .parts .now) = ⊎-elim (λ w. ap length (w .1) ∙ c .before .before .loop .inv .2) (λ w. ap length (w .7) ∙ w .2 .kept .1 .0 ∙ c .before .before .loop .inv .2) (c .before .loop-test .came) in

@@ -13,7 +13,7 @@ returns c = refl
 pub put-spec : {M : Type 1} → statement M
 put-spec =
     tie.close
-    (tie.spec (λ c. search needs) (λ c. search needs) (λ c. search needs) (λ c. search needs)
+    (tie.spec (λ c. search needs) (λ c. search needs) (λ c. search needs) (λ c. search needs) (λ c. search needs)
     (λ c. simp length-set (omega arith)) (λ c. search needs) (λ c. search needs)
     (λ c. simp length-set (omega arith)) (λ c. search needs) (λ c. search needs)
     (λ c. simp length-set (omega arith)) (λ c. simp length-set) returns)

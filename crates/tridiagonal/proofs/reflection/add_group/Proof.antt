@@ -11,19 +11,19 @@ sub-add-rows : tie.Need-sub-add-rows
 sub-add-rows c =
     let args = c .before .before .before .before .before .args in
     let pre = c .before .before .before .before .before .pre in
-    omega (arith, group-in (args .n) (args .c) (args .r) (pre .2) (pre .5) (pre .7) (c .before .place .ensures))
+    omega (arith, group-in (args .n) (args .c) (args .r) (pre .2 .0) (pre .4) (pre .6) (c .before .place .ensures))
 
 add-rows-requires : tie.Need-add-rows-requires
 add-rows-requires c κs =
     let args = c .before .before .before .before .before .before .before .args in
     let pre = c .before .before .before .before .before .before .before .pre in
-    (search needs, search needs, terms-reach (args .n) (args .c) (args .a .now) (args .v .now) (args .r) (args .next) _ (pre .2) (pre .5) (pre .7) (c .before .before .before .place .ensures) (args .p .now) (pre .0) (pre .1))
+    (search needs, search needs, terms-reach (args .n) (args .c) (args .a .now) (args .v .now) (args .r) (args .next) _ (pre .2 .0) (pre .4) (pre .6) (c .before .before .before .place .ensures) (args .p .now) (pre .0) (pre .1))
 
 returns : tie.Need-returns
 returns c =
     let args = c .before .before .before .before .before .before .before .before .before .before .args in
     let pre = c .before .before .before .before .before .before .before .before .before .before .pre in
-    rw (c .before .before .add-rows .ensures, group-terms (args .n) (args .c) (args .a .now) (args .v .now) (args .r) (args .next) _ (pre .2) (pre .5) (pre .7) (c .before .before .before .before .before .before .place .ensures) (args .p .now) (pre .0) (pre .1))
+    rw (c .before .before .add-rows .ensures, group-terms (args .n) (args .c) (args .a .now) (args .v .now) (args .r) (args .next) _ (pre .2 .0) (pre .4) (pre .6) (c .before .before .before .before .before .before .place .ensures) (args .p .now) (pre .0) (pre .1))
 
 pub add-group-spec : {M : Type 1} → statement M
 add-group-spec =

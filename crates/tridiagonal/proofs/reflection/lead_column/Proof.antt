@@ -19,19 +19,19 @@ abbrev μ-loop : tie.MeasureT-loop
 μ-loop a₀ n c alpha i₀ a i = n - i
 
 loop-holds : tie.Need-loop-holds Inv-loop μ-loop
-loop-holds c = (omega arith, omega arith, refl, half-of _ _ _ (c .before .pre .0) (λ i j h k. refl) ∙ cleared-none _ _ _)
+loop-holds c = (omega arith, omega arith, refl, half-of _ _ _ (c .before .pre .0 .0) (λ i j h k. refl) ∙ cleared-none _ _ _)
 
 loop-again : tie.Need-loop-again Inv-loop μ-loop
 loop-again c = (omega arith, omega arith, simp length-set (omega arith), rw (c .before .before .loop .inv .3, c .place .ensures) (cleared-more _ _ _ _ (c .before .before .loop .inv .0) (search needs)))
 
 mul-a-2 : tie.Need-mul-a-2 Inv-loop μ-loop
-mul-a-2 c = omega (arith, triangle-apart (c .before .before .before .before .pre .2))
+mul-a-2 c = omega (arith, triangle-apart (c .before .before .before .before .pre .1))
 
 slice-write-a-2 : tie.Need-slice-write-a-2 Inv-loop μ-loop
-slice-write-a-2 c = omega (arith, triangle-apart (c .before .before .before .before .pre .2))
+slice-write-a-2 c = omega (arith, triangle-apart (c .before .before .before .before .pre .1))
 
 returns : tie.Need-returns Inv-loop μ-loop
-returns c = rw (c .before .before .loop .inv .3, c .place2 .ensures, le-antisymm (c .before .before .loop .inv .1) (search needs)) (cleared-all _ _ _ _ (c .before .before .before .before .pre .2))
+returns c = rw (c .before .before .loop .inv .3, c .place2 .ensures, le-antisymm (c .before .before .loop .inv .1) (search needs)) (cleared-all _ _ _ _ (c .before .before .before .before .pre .1))
 
 pub lead-column-spec : {M : Type 1} → statement M
 lead-column-spec =

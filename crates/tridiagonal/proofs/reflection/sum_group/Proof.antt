@@ -11,37 +11,37 @@ add-corner : tie.Need-add-corner
 add-corner c =
     let args = c .before .before .before .before .args in
     let pre = c .before .before .before .before .pre in
-    omega (arith, group-in (args .n) (args .c) (args .r) (pre .2) (pre .5) (pre .7) (c .place .ensures))
+    omega (arith, group-in (args .n) (args .c) (args .r) (pre .2 .0) (pre .4) (pre .6) (c .place .ensures))
 
 sub-row-dots : tie.Need-sub-row-dots-2
 sub-row-dots c =
     let args = c .before .before .before .before .before .args in
     let pre = c .before .before .before .before .before .pre in
-    omega (arith, group-in (args .n) (args .c) (args .r) (pre .2) (pre .5) (pre .7) (c .before .place .ensures))
+    omega (arith, group-in (args .n) (args .c) (args .r) (pre .2 .0) (pre .4) (pre .6) (c .before .place .ensures))
 
 row-dots-requires : tie.Need-row-dots-requires
 row-dots-requires c κs =
     let args = c .before .before .before .before .before .before .before .args in
     let pre = c .before .before .before .before .before .before .before .pre in
-    (search needs, search needs, sums-reach (args .n) (args .c) (args .a .now) (args .v .now) (args .r) (args .next) _ (pre .2) (pre .5) (pre .7) (c .before .before .before .place .ensures) (args .p .now) (pre .0) (pre .1))
+    (search needs, search needs, sums-reach (args .n) (args .c) (args .a .now) (args .v .now) (args .r) (args .next) _ (pre .2 .0) (pre .4) (pre .6) (c .before .before .before .place .ensures) (args .p .now) (pre .0) (pre .1))
 
 sub-add-corner : tie.Need-sub-add-corner-2
 sub-add-corner c =
     let args = c .before .before .before .before .before .before .before .before .before .before .before .args in
     let pre = c .before .before .before .before .before .before .before .before .before .before .before .pre in
-    omega (arith, group-in (args .n) (args .c) (args .r) (pre .2) (pre .5) (pre .7) (c .before .before .before .before .before .before .before .place .ensures))
+    omega (arith, group-in (args .n) (args .c) (args .r) (pre .2 .0) (pre .4) (pre .6) (c .before .before .before .before .before .before .before .place .ensures))
 
 add-corner-requires : tie.Need-add-corner-requires
 add-corner-requires c κs =
     let args = c .before .before .before .before .before .before .before .before .before .before .before .before .before .args in
     let pre = c .before .before .before .before .before .before .before .before .before .before .before .before .before .pre in
-    (search needs, search needs, search needs, corner-reach (args .n) (args .c) (args .a .now) (args .v .now) (args .r) (args .next) _ (pre .2) (pre .5) (pre .7) (c .before .before .before .before .before .before .before .before .before .place .ensures) (args .p .now) (pre .0) (pre .1) _ (c .before .before .before .before .before .row-dots .ensures))
+    (search needs, search needs, search needs, corner-reach (args .n) (args .c) (args .a .now) (args .v .now) (args .r) (args .next) _ (pre .2 .0) (pre .4) (pre .6) (c .before .before .before .before .before .before .before .before .before .place .ensures) (args .p .now) (pre .0) (pre .1) _ (c .before .before .before .before .before .row-dots .ensures))
 
 returns : tie.Need-returns
 returns c =
     let args = c .before .before .before .before .before .before .before .before .before .before .before .before .before .before .before .before .args in
     let pre = c .before .before .before .before .before .before .before .before .before .before .before .before .before .before .before .before .pre in
-    rw (c .before .before .add-corner .ensures) (group-sums (args .n) (args .c) (args .a .now) (args .v .now) (args .r) (args .next) _ (pre .2) (pre .5) (pre .7) (c .before .before .before .before .before .before .before .before .before .before .before .before .place .ensures) (args .p .now) (pre .0) (pre .1) _ (c .before .before .before .before .before .before .before .before .row-dots .ensures))
+    rw (c .before .before .add-corner .ensures) (group-sums (args .n) (args .c) (args .a .now) (args .v .now) (args .r) (args .next) _ (pre .2 .0) (pre .4) (pre .6) (c .before .before .before .before .before .before .before .before .before .before .before .before .place .ensures) (args .p .now) (pre .0) (pre .1) _ (c .before .before .before .before .before .before .before .before .row-dots .ensures))
 
 pub sum-group-spec : {M : Type 1} → statement M
 sum-group-spec =

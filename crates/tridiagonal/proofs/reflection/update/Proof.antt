@@ -19,7 +19,7 @@ abbrev μ-loop : tie.MeasureT-loop
 μ-loop a₀ n c v q t₀ t-end a t = below n c - t
 
 loop-holds : tie.Need-loop-holds Inv-loop μ-loop
-loop-holds c = (omega arith, search needs, refl, update-none _ _ _ _ _ (c .before .before .before .pre .0))
+loop-holds c = (omega arith, search needs, refl, update-none _ _ _ _ _ (c .before .before .before .pre .0 .0))
 
 add-end-2 : tie.Need-add-end-2 Inv-loop μ-loop
 add-end-2 c = omega (arith, triangle-apart {i = c .before .before .before .before .before .before .args .c + 1 + c .before .before .loop .t} {r = c .before .before .before .before .before .before .args .n} (search needs))
@@ -31,10 +31,10 @@ part-take-multiples-end : tie.Need-part-take-multiples-end Inv-loop μ-loop
 part-take-multiples-end c = omega (arith, triangle-apart {i = c .before .before .before .before .before .before .args .c + 1 + c .before .before .loop .t} {r = c .before .before .before .before .before .before .args .n} (search needs))
 
 loop-again : tie.Need-loop-again Inv-loop μ-loop
-loop-again c = (omega arith, search needs, search needs, rw (c .before .before .take-multiples .ensures, c .before .before .before .before .before .before .before .before .loop .inv .3) (update-row _ _ _ _ _ _ _ _ (c .before .before .before .before .before .before .before .before .before .before .before .before .pre .4) (search needs) (c .before .before .before .before .before .before .place .ensures) (search needs)))
+loop-again c = (omega arith, search needs, search needs, rw (c .before .before .take-multiples .ensures, c .before .before .before .before .before .before .before .before .loop .inv .3) (update-row _ _ _ _ _ _ _ _ (c .before .before .before .before .before .before .before .before .before .before .before .before .pre .3) (search needs) (c .before .before .before .before .before .before .place .ensures) (search needs)))
 
 returns : tie.Need-returns Inv-loop μ-loop
-returns c = c .before .loop .inv .3 ∙ rw (le-antisymm (c .before .loop .inv .0) (search needs)) (update-all _ _ _ _ _ (c .before .before .before .before .before .pre .4))
+returns c = c .before .loop .inv .3 ∙ rw (le-antisymm (c .before .loop .inv .0) (search needs)) (update-all _ _ _ _ _ (c .before .before .before .before .before .pre .3))
 
 pub update-spec : {M : Type 1} → statement M
 update-spec =

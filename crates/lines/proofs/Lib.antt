@@ -1,0 +1,5 @@
+pub mod DigitLaws
+pub mod PutLaws
+pub mod LineLaws
+pub mod Examples
+pub mod OneOutcome
