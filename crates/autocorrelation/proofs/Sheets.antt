@@ -1,4 +1,4 @@
--- The statistic of document 01's sheets P1 to P5, its refusals of P7 to P9, and two of its plausible slips: squares that underflow, and the place of the first number
+-- The statistic of document 01's sheets P1 to P5, why P7 to P9 have none, and two of its plausible slips: squares that underflow, and the place of the first number
 -- that is not finite. Each is worked out by the definition itself. Assumes nothing.
 use mathlib.Core.Path.{_≡_, refl}
 use mathlib.Core.List.{List, [], _∷_, map}

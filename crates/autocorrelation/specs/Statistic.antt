@@ -1,7 +1,7 @@
 -- The Durbin-Watson statistic of a run of residuals e, and what `durbin_watson` answers, or why there is none (Durbin and Watson 1950).
 -- A run is a list of binary64 values, numbered from 0; ⊖, ⊗ and ⊘ round once, and sums run first to last from -0 (crate floats).
 -- Definitions only. Assumes nothing.
-use Prim.Native.Nat.{ℕ, _+_, _-_}
+use Prim.Native.Nat.{_+_, _-_}
 use mathlib.Core.Bool.{cond, _&&_}
 use mathlib.Core.List.{List}
 use lib.ListN.{length}

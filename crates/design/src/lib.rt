@@ -40,13 +40,17 @@ pub enum SizeAnswer {
 }
 
 impl SheetSize {
+    pub const MAX_ROWS: usize = MAX_ROWS;
+
+    pub const MAX_COLUMNS: usize = MAX_COLUMNS;
+
     pub fn new(n: usize, k: usize) -> SizeAnswer
         ensures { λ r. ⌜ r ≡ sizeOf n k ⌝ }
     {
-        if n > MAX_ROWS {
+        if n > SheetSize::MAX_ROWS {
             return SizeAnswer::TooManyRows;
         }
-        if k > MAX_COLUMNS {
+        if k > SheetSize::MAX_COLUMNS {
             return SizeAnswer::TooManyColumns;
         }
         SizeAnswer::Fits(SheetSize {

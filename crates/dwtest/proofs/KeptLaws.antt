@@ -1,5 +1,5 @@
 -- The kept eigenvalues at the front of a run are what the statistic's side is asked of. x holds k columns of n rows, i is taken for (X'X)^-1. Assumes nothing.
-use mathlib.Core.Path.{_≡_, refl, sym, ap, _∙_}
+use mathlib.Core.Path.{_≡_, refl, sym}
 use Prim.Native.Nat.{ℕ, _≤_}
 use native.Mathlib.Omega.{arith}
 use mathlib.Core.List.{List, _++_}

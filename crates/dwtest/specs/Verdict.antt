@@ -1,6 +1,6 @@
 -- WHAT THE STATISTIC DECIDES, of the statistic, the alternative and the number of rows that are asked: from the eigenvalues, and from the law where that is due.
 -- Definitions only. Assumes nothing.
-use Prim.Native.Nat.{ℕ, _≤_}
+use Prim.Native.Nat.{_≤_}
 use mathlib.Core.Bool.{cond}
 use mathlib.Core.List.{List, []}
 use lib.ListN.{length, take}

@@ -1,6 +1,5 @@
 // What the columns decide beside the eigenvalues: the inverse and the law.
 ghost use mathlib.Core.Path.{_≡_};
-ghost use Prim.Native.Nat.{_<_};
 ghost use Rattle.design.specs.Sheet.{Design};
 ghost use Rattle.design.specs.Inverse.{inverseOf};
 ghost use Rattle.outcome.specs.Refusals.{firstOf};

@@ -1,7 +1,7 @@
 // Words put into a buffer: digits, a word, a line.
 ghost use mathlib.Core.Path.{_≡_};
-ghost use mathlib.Core.List.{List, [], _∷_, _++_};
-ghost use Prim.Native.Nat.{_+_, _*_, _<_, _≤_};
+ghost use mathlib.Core.List.{[], _∷_, _++_};
+ghost use Prim.Native.Nat.{_+_, _<_, _≤_};
 ghost use lib.Dec.{ltb};
 ghost use lib.ListN.{length};
 ghost use Rattle.lines.specs.Lines.{digitOf, digits, widthOf, textOf, widestOf, behind, lineOf, longestOf, kindsOf, kindAt, wordsAt, putAt};

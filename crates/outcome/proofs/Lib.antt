@@ -1,3 +1,4 @@
 pub mod RoomLaws
 pub mod PassLaws
 pub mod Bounds
+pub mod Single

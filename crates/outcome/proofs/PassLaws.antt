@@ -13,8 +13,12 @@ use Rattle.design.specs.declared.Columns.the-variants.{NoColumn, RowsOver, Colu
 use Rattle.design.specs.declared.Pivots.{Pivots}
 use Rattle.design.specs.declared.Pivots.the-variants.{Hold, Fails}
 use Rattle.design.proofs.SheetLaws.{sound-columns}
+use Rattle.imhof.specs.Parts.{mostParts}
+use Rattle.imhof.specs.declared.Quadrature.{Quadrature}
+use Rattle.records.specs.Answer.{answerOf}
+use Rattle.records.proofs.AnswerLaws.{answer-short}
 use Rattle.outcome.specs.Rooms.{partRoom}
-use Rattle.outcome.specs.Refusals.{passed, refusal, passes, firstOf, columnsRefusal, rowsRefusal, pivotsRefusal, inverseRefusal, roomRefusal, notFinite}
+use Rattle.outcome.specs.Refusals.{passed, refusal, passes, firstOf, columnsRefusal, rowsRefusal, pivotsRefusal, inverseRefusal, roomRefusal, notFinite, recordsRefusal}
 
 -- a size of n rows and k columns
 abbrev pub size : ℕ → ℕ → SheetSize
@@ -73,3 +77,7 @@ inverse-alone k i = go (finiteMatrix k i)
     go : (b : Bool) → cond (passes (cond b passed (notFinite 1))) passed (cond b passed (notFinite 1)) ≡ cond b passed (notFinite 1)
     go true = refl
     go false = refl
+
+-- a list of records that is too short is refused as 12, place 2
+pub short-is-12 : (n : ℕ) (q : Quadrature) → n < mostParts → recordsRefusal (answerOf n q) ≡ refusal 12 2
+short-is-12 n q h = ap recordsRefusal (sym (answer-short n q h))

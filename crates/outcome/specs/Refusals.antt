@@ -15,6 +15,10 @@ use Rattle.design.specs.declared.Pivots.{Pivots}
 use Rattle.design.specs.declared.Pivots.the-variants.{Hold, Fails}
 use Rattle.design.specs.declared.LawAnswer.{LawAnswer}
 use Rattle.design.specs.declared.LawAnswer.the-variants as law
+use Rattle.imhof.specs.declared.Quadrature.{Quadrature}
+use Rattle.imhof.specs.declared.Quadrature.the-variants.{Sum, Broken}
+use Rattle.records.specs.declared.Answer.{Answer}
+use Rattle.records.specs.declared.Answer.the-variants.{RoomShort, Found}
 use Rattle.outcome.specs.Rooms.{partRoom}
 use Rattle.outcome.specs.declared.Refusal.{Refusal}
 
@@ -88,6 +92,15 @@ notFinite stage = refusal 13 stage
 
 abbrev pub inverseRefusal : ℕ → Matrix → Refusal
 inverseRefusal k inverse = cond (finiteMatrix k inverse) passed (notFinite 1)
+
+-- of an integral by itself, and over a lent list of records: 13, stage 4, and 12, place 2
+abbrev pub quadratureRefusal : Quadrature → Refusal
+quadratureRefusal (Sum i) = passed
+quadratureRefusal Broken = notFinite 4
+
+abbrev pub recordsRefusal : Answer → Refusal
+recordsRefusal RoomShort = noParts
+recordsRefusal (Found q) = quadratureRefusal q
 
 -- 14: the law has no spread
 abbrev pub notSpread : Refusal

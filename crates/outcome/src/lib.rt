@@ -1,7 +1,6 @@
 // The answer of the test: what is asked for, document 01's refusals and paths, the result with its marks, and the lengths of
 // the lent rooms. The crates below say in their own words what they found; document 01's numbers stand here.
 ghost use mathlib.Core.Path.{_≡_};
-ghost use mathlib.Core.Bool.{Bool};
 ghost use Rattle.outcome.specs.Codes.{alternativeOf, choiceOf};
 ghost use Rattle.outcome.specs.Result.{noLaw, direct, fallenBack, workedOut, refusedOf, acceptedOf, wantsExact};
 
@@ -21,7 +20,7 @@ pub enum Alternative {
     TwoSided,
 }
 
-// Exact by default below 100 rows, else normal.
+// Exact by default below EXACT_BELOW rows, else normal.
 pub enum Choice {
     Default,
     Exact,

@@ -1,9 +1,9 @@
-// Document 01's numbers: what each step found, as a refusal. Number and place are 0 where nothing is refused.
+// Document 01's numbers: what each step found, as a refusal, whose number and place are 0 where nothing is refused; and what it gives then.
 ghost use mathlib.Core.Path.{_≡_};
 ghost use Prim.Native.Nat.{_≤_};
 ghost use Rattle.floats.specs.Limits.{maxRows, maxColumns};
 ghost use Rattle.autocorrelation.specs.Statistic.{value};
-ghost use Rattle.outcome.specs.Refusals.{columnsRefusal, sizeIn, statisticRefusal, rowsRefusal, pivotsRefusal, inverseRefusal, roomRefusal, notFinite, notSpread};
+ghost use Rattle.outcome.specs.Refusals.{columnsRefusal, sizeIn, statisticRefusal, rowsRefusal, pivotsRefusal, inverseRefusal, noMatrix, noParts, roomRefusal, notFinite, quadratureRefusal, recordsRefusal, notSpread};
 ghost use Rattle.outcome.specs.Rooms.{roomOf};
 use super::Refusal;
 use super::rooms::matrix_room;
@@ -12,6 +12,8 @@ use design::Columns;
 use design::Matrix;
 use design::Pivots;
 use design::SheetSize;
+use imhof::Quadrature;
+use records::Answer;
 
 // Stages of refusal 13.
 pub const INVERSE: usize = 1;
@@ -152,22 +154,35 @@ pub fn of_pivots(found: Pivots) -> Refusal
     }
 }
 
-// Refusal 12, for n rows and rooms of these lengths.
+// Refusal 12: of matrix room, and of part room.
+pub fn no_matrix() -> Refusal
+    ensures { λ r. ⌜ r ≡ noMatrix ⌝ }
+{
+    Refusal {
+        number: 12,
+        place: 1,
+    }
+}
+
+pub fn no_parts() -> Refusal
+    ensures { λ r. ⌜ r ≡ noParts ⌝ }
+{
+    Refusal {
+        number: 12,
+        place: 2,
+    }
+}
+
+// The same for n rows and rooms of these lengths.
 pub fn of_rooms(n: usize, matrix: usize, parts: usize) -> Refusal
     requires { ⌜ n ≤ maxRows ⌝ }
     ensures { λ r. ⌜ r ≡ roomRefusal (roomOf n) matrix parts ⌝ }
 {
     if matrix < matrix_room(n) {
-        return Refusal {
-            number: 12,
-            place: 1,
-        };
+        return no_matrix();
     }
     if parts < imhof::PART_ROOM {
-        return Refusal {
-            number: 12,
-            place: 2,
-        };
+        return no_parts();
     }
     Refusal {
         number: 0,
@@ -197,6 +212,28 @@ pub fn of_inverse(inverse: Matrix, k: usize) -> Refusal
         };
     }
     not_finite(INVERSE)
+}
+
+// The same for an integral; and over a lent list of records refusal 12 besides.
+pub fn of_quadrature(found: Quadrature) -> Refusal
+    ensures { λ r. ⌜ r ≡ quadratureRefusal found ⌝ }
+{
+    match found {
+        Quadrature::Sum(_) => Refusal {
+            number: 0,
+            place: 0,
+        },
+        Quadrature::Broken => not_finite(INTEGRAL),
+    }
+}
+
+pub fn of_records(found: Answer) -> Refusal
+    ensures { λ r. ⌜ r ≡ recordsRefusal found ⌝ }
+{
+    match found {
+        Answer::RoomShort => no_parts(),
+        Answer::Found(q) => of_quadrature(q),
+    }
 }
 
 // Refusal 14.

@@ -3,7 +3,7 @@
 // A call is 7 words of 8 bytes, the least byte first: how many residuals, how many numbers of columns, k, the codes of the alternative and of the choice (the
 // least byte alone is read), how many numbers of the matrix room and of the part room are lent; then the patterns of the residuals
 // and of the columns' numbers. The line: the sheet program's fields, then n and alternative of the answer, the law's mean and variance, and a
-// word for each room: 0 it is as it was in every bit, 1 its first n (n + 1) (8,004) numbers are +0 and the others as they were, 2 anything else.
+// word for each room: 0 it is as it was in every bit, 1 its first n (n + 1), or PART_ROOM, numbers are +0 and the others as they were, 2 anything else.
 mod print;
 mod rooms;
 

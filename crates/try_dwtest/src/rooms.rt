@@ -1,16 +1,18 @@
 // The two rooms: what they are filled with before a call, and what they hold after it.
 use floats::bits::bits_of;
+use floats::limits::MAX_ROWS;
 use imhof::PART_ROOM;
 ghost use mathlib.Core.Path.{_≡_};
-ghost use Prim.Native.Nat.{_+_, _≤_};
+ghost use Prim.Native.Nat.{_+_, _*_, _≤_};
 ghost use lib.ListN.{length};
+ghost use Rattle.floats.specs.Limits.{maxRows};
 ghost use Rattle.imhof.specs.Room.{partRoom};
 
 // For 256 rows 2n² numbers, nearly twice what they want, and eight more.
-pub fn matrix_room() -> [f64; 131_080]
-    ensures { λ r. ⌜ 131080 ≡ length r ⌝ }
+pub fn matrix_room() -> [f64; 2 * MAX_ROWS * MAX_ROWS + 8]
+    ensures { λ r. ⌜ 2 * maxRows * maxRows + 8 ≡ length r ⌝ }
 {
-    [0.0; 131_080]
+    [0.0; 2 * MAX_ROWS * MAX_ROWS + 8]
 }
 
 // Room for as many parts as there can be, and eight numbers more.

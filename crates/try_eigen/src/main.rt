@@ -7,7 +7,6 @@
 mod print;
 
 use design::Matrix;
-use design::Pivots;
 use design::SheetSize;
 use design::SizeAnswer;
 use eigen::Spectrum;
@@ -16,6 +15,11 @@ use floats::bits::little_endian;
 use floats::limits::MAX_COLUMNS;
 use floats::limits::MAX_ROWS;
 use libc::STDIN_FILENO;
+use outcome::refusals::EIGENVALUES;
+use outcome::refusals::PRODUCT;
+use outcome::refusals::not_finite;
+use outcome::refusals::of_inverse;
+use outcome::refusals::of_pivots;
 use print::print_cut;
 use print::print_kept;
 use print::print_refusal;
@@ -40,8 +44,8 @@ fn spectrum_of(i: usize, columns: &[f64], size: SheetSize, inverse: Matrix, room
     let mut kept = [0.0f64; MAX_ROWS];
     let spectrum = eigen::ma_eigenvalues(columns, size, inverse, room, &mut kept);
     match spectrum {
-        Spectrum::MatrixNotFinite => print_refusal(i, 13, 2),
-        Spectrum::NumberNotFinite => print_refusal(i, 13, 3),
+        Spectrum::MatrixNotFinite => print_refusal(i, not_finite(PRODUCT)),
+        Spectrum::NumberNotFinite => print_refusal(i, not_finite(EIGENVALUES)),
         Spectrum::Kept(numbers) => print_kept(i, numbers, &kept),
     }
 }
@@ -53,17 +57,18 @@ fn spectrum_by_columns(i: usize, columns: &[f64], size: SheetSize, room: &mut [f
     let k = size.columns;
     let mut l = [[0.0f64; MAX_COLUMNS]; MAX_COLUMNS];
     let pivots = design::factor(columns, size, &mut l);
-    match pivots {
-        Pivots::Fails(j) => print_refusal(i, 11, j),
-        Pivots::Hold => {
-            let inverse = design::inverse_of_factor(l, k);
-            if design::inverse_is_finite(inverse, k) {
-                spectrum_of(i, columns, size, inverse, room);
-            } else {
-                print_refusal(i, 13, 1);
-            }
-        }
+    let failed = of_pivots(pivots);
+    if failed.number != 0 {
+        print_refusal(i, failed);
+        return;
     }
+    let inverse = design::inverse_of_factor(l, k);
+    let finite = of_inverse(inverse, k);
+    if finite.number != 0 {
+        print_refusal(i, finite);
+        return;
+    }
+    spectrum_of(i, columns, size, inverse, room);
 }
 
 // Row i of the inverse that is given.

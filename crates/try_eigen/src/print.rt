@@ -2,6 +2,7 @@
 use eigen::Numbers;
 use floats::bits::bits_of;
 use libc::STDOUT_FILENO;
+use outcome::Refusal;
 
 fn print_word(n: u64) {
     io::write_all(STDOUT_FILENO, b" ");
@@ -17,10 +18,10 @@ fn print_pattern(x: f64) {
     io::print_hex(STDOUT_FILENO, bits_of(x), 16);
 }
 
-pub fn print_refusal(i: usize, number: usize, place: usize) {
+pub fn print_refusal(i: usize, why: Refusal) {
     io::print_decimal(STDOUT_FILENO, i as u64);
-    print_word(number as u64);
-    print_word(place as u64);
+    print_word(why.number as u64);
+    print_word(why.place as u64);
     io::write_all(STDOUT_FILENO, b"\n");
 }
 

@@ -16,9 +16,8 @@ use libc::STDIN_FILENO;
 use libc::STDOUT_FILENO;
 use lines::LONGEST;
 use outcome::Refusal;
-use outcome::refusals::INTEGRAL;
-use outcome::refusals::not_finite;
-use outcome::refusals::of_rooms;
+use outcome::refusals::of_quadrature;
+use outcome::refusals::of_records;
 use records::Answer;
 use sheet::file::Entry;
 use sheet::file::FileCheck;
@@ -64,7 +63,7 @@ fn print_file_refusal(refusal: FileRefusal) {
 
 fn print_quadrature(q: Quadrature) {
     match q {
-        Quadrature::Broken => print_refusal(not_finite(INTEGRAL)),
+        Quadrature::Broken => print_refusal(of_quadrature(q)),
         Quadrature::Sum(i) => {
             let work = i.tally;
             io::write_all(STDOUT_FILENO, b" 0 0");
@@ -79,8 +78,7 @@ fn print_quadrature(q: Quadrature) {
 
 fn print_answer(a: Answer) {
     match a {
-        // no rows want no matrix room, and part room too
-        Answer::RoomShort => print_refusal(of_rooms(0, 0, 0)),
+        Answer::RoomShort => print_refusal(of_records(a)),
         Answer::Found(q) => print_quadrature(q),
     }
 }
