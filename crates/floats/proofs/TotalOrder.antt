@@ -76,6 +76,12 @@ signed-falls true true true x y z p q r Q f g = fall z y x r q p Q g f
 
 -- of finite numbers: where x does not come before y, nor y before z, x does not come before z
 pub falls-on : (x y z : Float) → T (finite x) → T (finite y) → T (finite z) → before x y ≡ false → before y z ≡ false → before x z ≡ false
+falls-on nan y z a b o f g = elim a [ ]
+falls-on (inf _) y z a b o f g = elim a [ ]
+falls-on (fin s m e) nan z a b o f g = elim b [ ]
+falls-on (fin s m e) (inf _) z a b o f g = elim b [ ]
+falls-on (fin s m e) (fin t n d) nan a b o f g = elim o [ ]
+falls-on (fin s m e) (fin t n d) (inf _) a b o f g = elim o [ ]
 falls-on (fin s m e) (fin t n d) (fin u k c) a b o f g =
     before-signed s u m k e c
     ∙ signed-falls s t u (m * up e) (n * up d) (k * up c) (down e) (down d) (down c) (down_pos d) (sym (before-signed s t m n e d) ∙ f) (sym (before-signed t u n k d c) ∙ g)

@@ -8,7 +8,7 @@ ghost use Rattle.floats.specs.Signs.{minus, abs_of, copysign_of, max_of, before}
 // Neither a NaN nor an infinity. And what owning an f64 tells: the format holds it.
 pub fn is_finite(x: f64) -> bool
     ensures value { result ≡ finite x }
-    ensures t { T (fits binary64 x) }
+    ensures held { T (fits binary64 x) }
 {
     x - x == 0.0
 }

@@ -6,8 +6,7 @@ use lib.Ieee.{Float, nan, inf, fin, binary64, of_bits, is_nan, div}
 use lib.Ieee.Bits.{nan_bits_is, nan_bits_above}
 use borrow.Author.Tests.{lt-ltb, le-ltb}
 use borrow.Author.Rules.{rules}
-use Rattle.floats.proofs.bits.of_bits.Statement.{statement}
-use Rattle.floats.proofs.bits.of_bits.Tie as tie
+use Rattle.floats.proofs.bits.of_bits.Goals as goal
 
 the_nan : (x : Float) → is_nan x ≡ true → x ≡ nan
 unfolding is_nan
@@ -19,13 +18,8 @@ zero_by_zero : div binary64 (of_bits binary64 0) (of_bits binary64 0) ≡ nan
 unfolding div of_bits
 zero_by_zero = refl
 
-returns : tie.Need-returns
-returns c = zero_by_zero ∙ sym (the_nan _ (sym (nan_bits_is binary64 _) ∙ nan_bits_above binary64 _ ∙ lt-ltb _ _ c.if1.true))
+pub returns-then-b-gt9218868437227405312 : goal.returns-then-b-gt9218868437227405312
+returns-then-b-gt9218868437227405312 c = zero_by_zero ∙ sym (the_nan _ (sym (nan_bits_is binary64 _) ∙ nan_bits_above binary64 _ ∙ lt-ltb _ _ c.if-b-gt9218868437227405312.true))
 
-float-from-bits-result : tie.Need-float-from-bits-result
-float-from-bits-result c = subst (λ (b : Bool). T (not b)) (sym (nan_bits_above binary64 _ ∙ le-ltb _ _ c.if1.false)) tt
-
-pub of-bits-spec : {M : Type 1} → statement M
-of-bits-spec =
-    tie.close
-    (tie.spec returns float-from-bits-result (λ c. search rules))
+pub float_from_bits-result : goal.float_from_bits-result
+float_from_bits-result c = subst (λ (b : Bool). T (not b)) (sym (nan_bits_above binary64 _ ∙ le-ltb _ _ c.if-b-gt9218868437227405312.false)) tt
