@@ -2,6 +2,8 @@
 //
 // The order of each sum is fixed; the order of the work is not. `add_terms` adds the terms of many sums at once, a
 // term of each before the next, so that the compiler can take several numbers at once.
+#![tactic(auto)]
+
 ghost use Rattle.std.specs.Prelude.{◌≡◌, ◌+◌, ◌*◌, ◌≤◌, ◌<◌, length};
 ghost use Rattle.floats.specs.Words.{◌⊕◌, ◌⊗◌, ◌‼◌};
 ghost use Rattle.floats.specs.Tables.{table};
