@@ -2,6 +2,8 @@
 //
 // Rows that stand one after another are worked over a few at a time. From a row of `stride` numbers on they begin at 0, stride, 2 stride + 1, 3 stride + 3, .., for each is one
 // number longer than the row before: the constants cost nothing in an address.
+#![tactic(auto)]
+
 ghost use Rattle.std.specs.Prelude.{◌≡◌, ◌+◌, ◌-◌, ◌*◌, ◌≤◌, ◌<◌, min, max, length};
 ghost use Rattle.floats.specs.Words.{◌⊗◌, ◌‼◌};
 ghost use Rattle.floats.specs.Sums.{sum_of};
