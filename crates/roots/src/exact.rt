@@ -3,14 +3,14 @@ ghost use Rattle.std.specs.Prelude.{◌≡◌, ◌+◌, ◌*◌, ◌^◌, ◌<�
 ghost use Rattle.roots.specs.Squares.{InParts, ShiftedParts, SumSquares, rounded_at};
 
 // hi * 2^54 + lo
-#[derive(Drop)]
+#[derive(Clone, Copy)]
 struct Wide {
     hi: u64,
     lo: u64,
 }
 
 // hi * 2^54 + lo, and whether nothing is lost below it
-#[derive(Drop)]
+#[derive(Clone, Copy)]
 struct Sum {
     hi: u64,
     lo: u64,

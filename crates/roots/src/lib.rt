@@ -1,4 +1,6 @@
 // The square root and hypot, correctly rounded. Both are total.
+#![tactic(auto)]
+
 mod digits;
 mod exact;
 mod lines;

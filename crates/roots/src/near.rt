@@ -18,7 +18,7 @@ fn guess(n: u64) -> u64
 }
 
 // The first 53 digits c of a root, from below, and how far its square lies above c² + c: by as much as `test` is more than `base`.
-#[derive(Drop)]
+#[derive(Clone, Copy)]
 pub struct Below {
     pub c: u64,
     pub base: u64,

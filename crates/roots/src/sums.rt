@@ -38,7 +38,7 @@ fn leading(m: u64, w: u64, d: u64) -> u64
 }
 
 // A root from below, c steps of 2^k, and what tells which way it goes.
-#[derive(Drop)]
+#[derive(Clone, Copy)]
 struct Rooted {
     c: u64,
     k: u64,
@@ -63,7 +63,7 @@ fn root_below(m: u64, w: u64, d: u64) -> Rooted
 }
 
 // The digits and the exponent of a number: m * 2^e units.
-#[derive(Drop)]
+#[derive(Clone, Copy)]
 struct Number {
     m: u64,
     e: u64,

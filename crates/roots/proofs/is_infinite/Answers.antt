@@ -2,8 +2,7 @@ use Rattle.std.proofs.Common.{◌≡◌, true, false, refl, true≢false}
 use mathlib.Core.Bool.{false≢true}
 use lib.Ieee.{Float, nan, inf, fin, eq, neg, div, of_bits}
 use Rattle.roots.specs.Hypot.{infinite}
-use Rattle.roots.proofs.is_infinite.Statement.{statement}
-use Rattle.roots.proofs.is_infinite.Tie as tie
+use Rattle.roots.proofs.is_infinite.Goals as goal
 
 plus : (x : Float) → eq x (inf false) ≡ true → eq x (inf false) ≡ infinite x
 unfolding eq
@@ -19,15 +18,10 @@ minus (inf true) h = refl
 minus (inf false) h = absurd (true≢false h)
 minus (fin s m e) h = refl
 
-returns : tie.Need-returns
+pub returns-then-x : goal.returns-then-x
 unfolding div neg of_bits
-returns c = plus c.before.args.x c.if1.true
+returns-then-x c = plus c.args.x c.if-x.true
 
-returns-2 : tie.Need-returns-2
+pub returns-else-x : goal.returns-else-x
 unfolding div neg of_bits
-returns-2 c = minus c.before.args.x c.if1.false
-
-pub is-infinite-spec : {M : Type 1} → statement M
-is-infinite-spec =
-    tie.close
-    (tie.spec returns returns-2)
+returns-else-x c = minus c.args.x c.if-x.false

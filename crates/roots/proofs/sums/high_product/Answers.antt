@@ -1,7 +1,6 @@
 -- `high_product`: the products of halves of 32 digits, added column by column with what each carries.
 use Rattle.std.proofs.Common.{◌≡◌, ℕ, ◌+◌, ◌-◌, ◌*◌, ◌/◌, ◌%◌, ◌^◌, ◌≤◌, ◌∙◌, mul-le-mul, div-add-mod', arith}
-use Rattle.roots.proofs.sums.high_product.Statement.{statement}
-use Rattle.roots.proofs.sums.high_product.Tie as tie
+use Rattle.roots.proofs.sums.high_product.Goals as goal
 
 -- of (a * 2 ^ 32 + b) * (x * 2 ^ 32 + y): one product of the middle with what the lowest carries, and the other with what is left of that
 abbrev middle : ℕ → ℕ → ℕ → ℕ
@@ -17,7 +16,7 @@ abbrev lower : ℕ → ℕ
 lower n = n % 2 ^ 32
 
 -- the four products, which leave room for what is carried
-module _ (c : tie.Start) where
+module _ (c : goal.Start) where
   abbrev u : ℕ
   u = c.args.u
 
@@ -35,32 +34,29 @@ module _ (c : tie.Start) where
       let y : lower v ≤ 2 ^ 32 - 1 = omega arith in
       (mul-le-mul a x, mul-le-mul a y, mul-le-mul b x, mul-le-mul b y)
 
-mul-t : tie.Need-overflow-mul-t
-mul-t c = omega (arith, products c)
+pub overflow_mul-t : goal.overflow_mul-t
+overflow_mul-t c = omega (arith, products c)
 
-mul-t-2 : tie.Need-overflow-mul-t-2
-mul-t-2 c = omega (arith, products c)
+pub overflow_mul-t-2 : goal.overflow_mul-t-2
+overflow_mul-t-2 c = omega (arith, products c)
 
-add-t : tie.Need-overflow-add-t
-add-t c = omega (arith, products c)
+pub overflow_add-t : goal.overflow_add-t
+overflow_add-t c = omega (arith, products c)
 
-mul-s : tie.Need-overflow-mul-s
-mul-s c = omega (arith, products c)
+pub overflow_mul-s : goal.overflow_mul-s
+overflow_mul-s c = omega (arith, products c)
 
-add-s : tie.Need-overflow-add-s
-add-s c = omega (arith, products c)
+pub overflow_add-s : goal.overflow_add-s
+overflow_add-s c = omega (arith, products c)
 
-mul-result : tie.Need-overflow-mul-result
-mul-result c = omega (arith, products c)
+pub overflow_mul-result : goal.overflow_mul-result
+overflow_mul-result c = omega (arith, products c)
 
-add-result : tie.Need-overflow-add-result
-add-result c = omega (arith, products c)
+pub overflow_add-result : goal.overflow_add-result
+overflow_add-result c = omega (arith, products c)
 
-add-result-2 : tie.Need-overflow-add-result-2
-add-result-2 c = omega (arith, products c)
+pub overflow_add-result-2 : goal.overflow_add-result-2
+overflow_add-result-2 c = omega (arith, products c)
 
-returns : tie.Need-returns
+pub returns : goal.returns
 returns c = columns (upper (u c)) (lower (u c)) (upper (v c)) (lower (v c)) ∙ rw (div-add-mod' (u c) (2 ^ 32), div-add-mod' (v c) (2 ^ 32))
-
-pub high-product-spec : {M : Type 1} → statement M
-high-product-spec = tie.close (tie.spec mul-t mul-t-2 add-t mul-s add-s mul-result add-result add-result-2 returns)
