@@ -3,6 +3,8 @@
 // for its 384 numbers, and for near::place, which asks for a y below the reach. Each promise names the list of
 // steps that the function is proved equal to; specs/ has the lists, with the method in numbered steps, the
 // ranges, the measured error and where the constants come from.
+#![tactic(auto)]
+
 mod arctangent;
 mod exponential;
 mod logarithm;
@@ -139,7 +141,7 @@ pub fn sin(x: f64) -> f64
 }
 
 // The normal law with this mean and this variance.
-#[derive(Drop)]
+#[derive(Clone, Copy)]
 pub struct NormalLaw {
     pub mean: f64,
     pub variance: f64,

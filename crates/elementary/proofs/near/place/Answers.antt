@@ -1,0 +1,11 @@
+use Rattle.elementary.specs.Near.{place_of}
+use Rattle.elementary.proofs.PlaceLaws.{may-be-asked}
+use Rattle.std.proofs.Common.{rules}
+use Rattle.elementary.proofs.near.place.Goals as goal
+
+pub float_to_bits-b : goal.float_to_bits-b
+float_to_bits-b c = may-be-asked _ c.requires
+
+pub returns-clause-value : goal.returns-clause-value
+unfolding place_of
+returns-clause-value c = search rules
