@@ -1,11 +1,17 @@
 // Replays the stored vectors of measure/elementary/vectors.sh: answers within the functions' measured errors of the truth, and edges to
 // the bit. Prints what fails, and the counts. The input is words of 8 bytes, the least byte first: how many vectors each of the seven
 // functions has, then function by function its vectors: the arguments, and the least and the greatest answer allowed.
-ghost use Rattle.std.specs.Prelude.{◌+◌, ◌*◌, ◌^◌, ◌<◌, ◌≤◌};
+#![tactic(auto)]
+
+ghost use Rattle.std.specs.Prelude.{◌+◌, ◌*◌, ◌^◌, ◌<◌, ◌≤◌, IfOk};
 
 use elementary::NormalLaw;
 use floats::bits::{bits_of, little_endian, of_bits};
-use libc::{STDIN_FILENO, STDOUT_FILENO};
+use std::io;
+use std::io::Read;
+
+// No more of the input is read.
+const MOST_BYTES: u64 = 65_536;
 
 // Word k of the input, and 0 past its end.
 fn word(s: &[u8], k: usize) -> u64 {
@@ -16,21 +22,21 @@ fn word(s: &[u8], k: usize) -> u64 {
     }
 }
 
-fn print_name(function: usize) {
+fn name_of(function: usize) -> &'static str {
     if function == 0 {
-        io::write_all(STDOUT_FILENO, b"exp");
+        "exp"
     } else if function == 1 {
-        io::write_all(STDOUT_FILENO, b"ln");
+        "ln"
     } else if function == 2 {
-        io::write_all(STDOUT_FILENO, b"ln_1p");
+        "ln_1p"
     } else if function == 3 {
-        io::write_all(STDOUT_FILENO, b"atan");
+        "atan"
     } else if function == 4 {
-        io::write_all(STDOUT_FILENO, b"sin");
+        "sin"
     } else if function == 5 {
-        io::write_all(STDOUT_FILENO, b"lower_tail");
+        "lower_tail"
     } else {
-        io::write_all(STDOUT_FILENO, b"upper_tail");
+        "upper_tail"
     }
 }
 
@@ -80,75 +86,80 @@ fn is_allowed(got: f64, least: u64, greatest: u64) -> bool {
     of_bits(least) <= got && got <= of_bits(greatest)
 }
 
-fn print_wrong(function: usize, x: u64, got: u64, least: u64, greatest: u64) {
-    print_name(function);
-    io::write_all(STDOUT_FILENO, b" ");
-    io::print_hex(STDOUT_FILENO, x, 16);
-    io::write_all(STDOUT_FILENO, b" is ");
-    io::print_hex(STDOUT_FILENO, got, 16);
-    io::write_all(STDOUT_FILENO, b", not ");
-    io::print_hex(STDOUT_FILENO, least, 16);
-    io::write_all(STDOUT_FILENO, b" to ");
-    io::print_hex(STDOUT_FILENO, greatest, 16);
-    io::write_all(STDOUT_FILENO, b"\n");
+fn print_wrong(
+    rt: &impl Print,
+    function: usize,
+    x: u64,
+    got: u64,
+    least: u64,
+    greatest: u64,
+) -> io::Result<()> {
+    let name = name_of(function);
+    println!(rt; "{name} {x:016x} is {got:016x}, not {least:016x} to {greatest:016x}")
 }
 
 // 1 where the vector from word k on is met, else 0.
-fn meets(s: &[u8], function: usize, k: usize) -> usize
+fn meets(rt: &impl Print, s: &[u8], function: usize, k: usize) -> io::Result<usize>
     requires { k < 2 ^ 32 }
-    ensures { result ≤ 1 }
+    ensures { IfOk result (λ n. n ≤ 1) }
 {
     let got = answer(s, function, k);
     let last = k + arguments(function);
     let least = word(s, last);
     let greatest = word(s, last + 1);
     if is_allowed(got, least, greatest) {
-        return 1;
+        return Ok(1);
     }
-    print_wrong(function, word(s, last - 1), bits_of(got), least, greatest);
-    0
+    print_wrong(
+        rt,
+        function,
+        word(s, last - 1),
+        bits_of(got),
+        least,
+        greatest,
+    )?;
+    Ok(0)
 }
 
 // Replays a function's vectors, from word `from` on, and gives the word after them.
-fn replay_function(s: &[u8], function: usize, from: usize, count: usize) -> usize
+fn replay_function(
+    rt: &impl Print,
+    s: &[u8],
+    function: usize,
+    from: usize,
+    count: usize,
+) -> io::Result<usize>
     requires { (from < 2 ^ 20) × (count < 2 ^ 16) }
-    ensures { result ≤ from + 5 * count }
+    ensures { IfOk result (λ k. k ≤ from + 5 * count) }
 {
     let mut met: usize = 0;
     let mut k = from;
     for _vector in 0..count {
-        met = met + meets(s, function, k);
+        met = met + meets(rt, s, function, k)?;
         k = k + arguments(function) + 2;
     }
-    print_name(function);
-    io::write_all(STDOUT_FILENO, b": ");
-    io::print_decimal(STDOUT_FILENO, count as u64);
-    io::write_all(STDOUT_FILENO, b", met ");
-    io::print_decimal(STDOUT_FILENO, met as u64);
-    io::write_all(STDOUT_FILENO, b"\n");
-    k
+    let name = name_of(function);
+    println!(rt; "{name}: {count}, met {met}")?;
+    Ok(k)
 }
 
-fn replay(s: &[u8]) {
+fn replay(rt: &impl Print, s: &[u8]) -> io::Result<()> {
     let mut from: usize = 7;
     for function in 0..7usize {
         let count = word(s, function);
         if count >= 4096 {
-            io::write_all(STDOUT_FILENO, b"a count is too large\n");
-            return;
+            return println!(rt; "a count is too large");
         }
-        from = replay_function(s, function, from, count as usize);
+        from = replay_function(rt, s, function, from, count as usize)?;
     }
     if s.len() != from * 8 {
-        io::write_all(
-            STDOUT_FILENO,
-            b"the vectors do not end where their counts say\n",
-        );
+        println!(rt; "the vectors do not end where their counts say")?;
     }
+    Ok(())
 }
 
-fn main() {
-    let mut room = io::large_buffer();
-    let n = io::read_full(STDIN_FILENO, &mut room);
-    replay(&room[..n]);
+fn main(rt: HostRuntime) -> io::Result<()> {
+    let mut bytes = Vec::new(rt.alloc());
+    rt.reader().take(MOST_BYTES).read_to_end(&mut bytes)?;
+    replay(&rt, &bytes[..])
 }
