@@ -41,17 +41,17 @@ numbers : (e : List Float) → T (held? e) → first_bad e ≡ Nothing → (t : 
 numbers e h f t g = number (e ‼ t) (all-finite e f t g) (all-at (length e) (λ t. fits binary64 (e ‼ t)) t h g)
 
 -- THE BOUND, where every number and every exact difference of neighbours is 0 or from 2^-250 to 2^250 in size: such a run's statistic does not overflow
-pub run-accurate : (e : List Float) → 2 ≤ length e → length e ≤ max_rows → T (held? e) → first_bad e ≡ Nothing → eq (squares e) plus_zero ≡ false
+pub statistic-accurate : (e : List Float) → 2 ≤ length e → length e ≤ 256 → T (held? e) → first_bad e ≡ Nothing → eq (squares e) plus_zero ≡ false
     → T (numbers_sized? 250 e) → T (differences_sized? 250 e) → Accurate (length e) (durbin_watson e) (exact_differences e) (exact_squares e)
-run-accurate e a b h f s p q =
+statistic-accurate e a b h f s p q =
     accurate (2 ^ 824) (2 ^ 1324) wide e (length e) a b (numbers e h f)
     (λ (t : ℕ) (g : t < length e). among 250 (exact (e ‼ t)) (all-at (length e) (λ t. sized? 250 (exact (e ‼ t))) t p g))
     (λ (t : ℕ) (g : t < length e - 1). among 250 (exact_difference e t) (all-at (length e - 1) (λ t. sized? 250 (exact_difference e t)) t q g)) s
 
 -- the same with no rule on differences, where every number is 0 or from 2^-220 to 2^220 in size
-pub run-accurate-narrow : (e : List Float) → 2 ≤ length e → length e ≤ max_rows → T (held? e) → first_bad e ≡ Nothing → eq (squares e) plus_zero ≡ false
+pub statistic-accurate-narrow : (e : List Float) → 2 ≤ length e → length e ≤ 256 → T (held? e) → first_bad e ≡ Nothing → eq (squares e) plus_zero ≡ false
     → T (numbers_sized? 220 e) → Accurate (length e) (durbin_watson e) (exact_differences e) (exact_squares e)
-run-accurate-narrow e a b h f s p =
+statistic-accurate-narrow e a b h f s p =
     accurate (2 ^ 802) (2 ^ 1295) narrow e (length e) a b (numbers e h f) (λ (t : ℕ) (g : t < length e). wider (lit≤ tt) (lit≤ tt) (size t g))
     (λ (t : ℕ) (g : t < length e - 1). apart (numbers e h f t (omega arith)) (numbers e h f (t + 1) (omega arith)) (size t (omega arith)) (size (t + 1) (omega arith))) s
   where
@@ -65,11 +65,11 @@ module _ (e : List Float) (d : Float) (v : durbin_watson_answer e ≡ Value d) (
 
   bounded : length e ≤ max_rows → T (numbers_sized? 250 e) → T (differences_sized? 250 e) → Accurate (length e) d (exact_differences e) (exact_squares e)
   bounded b p q =
-      subst (λ (x : Float). Accurate (length e) x (exact_differences e) (exact_squares e)) run.is (run-accurate e run.many b h run.numbers run.some p q)
+      subst (λ (x : Float). Accurate (length e) x (exact_differences e) (exact_squares e)) run.is (statistic-accurate e run.many b h run.numbers run.some p q)
 
   bounded-narrow : length e ≤ max_rows → T (numbers_sized? 220 e) → Accurate (length e) d (exact_differences e) (exact_squares e)
   bounded-narrow b p =
-      subst (λ (x : Float). Accurate (length e) x (exact_differences e) (exact_squares e)) run.is (run-accurate-narrow e run.many b h run.numbers run.some p)
+      subst (λ (x : Float). Accurate (length e) x (exact_differences e) (exact_squares e)) run.is (statistic-accurate-narrow e run.many b h run.numbers run.some p)
 
   -- a statistic is finite and not negative
   ranged : T (finite d) × T (le plus_zero d)
@@ -84,27 +84,43 @@ module _ (e : List Float) (d : Float) (v : durbin_watson_answer e ≡ Value d) (
   pub sure : Sure d e
   sure = record { held = h; is_finite = ranged.0; not_negative = ranged.1; accurate = bounded; accurate-narrow = bounded-narrow }
 
+pub answer-accurate : (e : List Float) (d : Float) → durbin_watson_answer e ≡ Value d → length e ≤ 256 → T (held? e)
+    → T (numbers_sized? 250 e) → T (differences_sized? 250 e) → Accurate (length e) d (exact_differences e) (exact_squares e)
+answer-accurate e d v b h p q = bounded e d v h b p q
+
+pub answer-accurate-narrow : (e : List Float) (d : Float) → durbin_watson_answer e ≡ Value d → length e ≤ 256 → T (held? e)
+    → T (numbers_sized? 220 e) → Accurate (length e) d (exact_differences e) (exact_squares e)
+answer-accurate-narrow e d v b h p = bounded-narrow e d v h b p
+
+-- a statistic that the definition gives is finite and not negative
+pub answer-finite : (e : List Float) (d : Float) → durbin_watson_answer e ≡ Value d → T (held? e) → T (finite d) × T (le plus_zero d)
+answer-finite e d v h = ranged e d v h
+
+-- any two answers that equal the definition's are one
+pub one_answer : (e : List Float) (r s : Statistic) → r ≡ durbin_watson_answer e → s ≡ durbin_watson_answer e → r ≡ s
+one_answer e r s p q = p ∙ sym q
+
 -- ---- of every answer that the promise of `durbin_watson` allows
 module _ (e : List Float) where
   abbrev pub Promised : Statistic → Type 0
   Promised r = (r ≡ durbin_watson_answer e) × Told r e
 
   -- any two are one
-  pub one_answer : (r s : Statistic) → Promised r → Promised s → r ≡ s
-  one_answer r s p q = p.0 ∙ sym q.0
+  pub one-promised : (r s : Statistic) → Promised r → Promised s → r ≡ s
+  one-promised r s p q = one_answer e r s p.0 q.0
 
   module _ (r : Statistic) (promised : Promised r) (d : Float) (v : r ≡ Value d) where
     known : Sure d e
     known = subst (λ (s : Statistic). Told s e) v promised.1
 
     -- THE BOUND, where every number and every exact difference of neighbours is 0 or from 2^-250 to 2^250 in size
-    pub answer-accurate : length e ≤ max_rows → T (numbers_sized? 250 e) → T (differences_sized? 250 e) → Accurate (length e) d (exact_differences e) (exact_squares e)
-    answer-accurate = known.accurate
+    pub promised-accurate : length e ≤ max_rows → T (numbers_sized? 250 e) → T (differences_sized? 250 e) → Accurate (length e) d (exact_differences e) (exact_squares e)
+    promised-accurate = known.accurate
 
     -- the same with no rule on differences, where every number is 0 or from 2^-220 to 2^220 in size
-    pub answer-accurate-narrow : length e ≤ max_rows → T (numbers_sized? 220 e) → Accurate (length e) d (exact_differences e) (exact_squares e)
-    answer-accurate-narrow = known.accurate-narrow
+    pub promised-accurate-narrow : length e ≤ max_rows → T (numbers_sized? 220 e) → Accurate (length e) d (exact_differences e) (exact_squares e)
+    promised-accurate-narrow = known.accurate-narrow
 
     -- an accepted statistic is finite and not negative
-    pub answer-finite : T (finite d) × T (le plus_zero d)
-    answer-finite = (known.is_finite, known.not_negative)
+    pub promised-finite : T (finite d) × T (le plus_zero d)
+    promised-finite = (known.is_finite, known.not_negative)

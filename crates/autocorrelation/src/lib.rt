@@ -1,4 +1,6 @@
 // The Durbin-Watson statistic of a run of residuals.
+#![tactic(auto)]
+
 ghost use Rattle.std.specs.Prelude.{◌≡◌, ◌≤◌, length};
 ghost use Rattle.autocorrelation.specs.Statistic.{differences, durbin_watson_answer};
 ghost use Rattle.autocorrelation.specs.Bound.{Told};
@@ -7,7 +9,7 @@ use floats::search::Found;
 
 // The statistic, or why there is none: no residual; only one; the first that is not finite, with its place; squares that sum to 0 as
 // computed; a sum that is not finite.
-#[derive(Drop)]
+#[derive(Clone, Copy)]
 pub enum Statistic {
     Value(f64),
     Empty,
