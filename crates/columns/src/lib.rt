@@ -1,4 +1,6 @@
 // The size of a sheet, and the checks of its columns. The k columns of n rows are one run, column after column.
+#![tactic(auto)]
+
 ghost use Rattle.std.specs.Prelude.{◌≡◌, ◌≤◌};
 ghost use Rattle.floats.specs.Limits.{max_rows, max_columns};
 ghost use Rattle.columns.specs.Sheet.{size_of, run_of, columns_of, too_few_rows};
@@ -7,13 +9,13 @@ use floats::limits::{MAX_COLUMNS, MAX_ROWS};
 use floats::search::{Found, first_bad};
 
 // Rows and columns of a sheet, within the limits of the sheet itself.
-#[derive(Drop)]
+#[derive(Clone, Copy)]
 pub struct SheetSize {
     pub rows: usize,
     pub columns: usize,
 }
 
-#[derive(Drop)]
+#[derive(Clone, Copy)]
 pub enum SizeAnswer {
     Fits(SheetSize),
     TooManyRows,
@@ -42,7 +44,7 @@ impl SheetSize {
 }
 
 // What the columns are found to be: sound, with their size, or what is wrong first.
-#[derive(Drop)]
+#[derive(Clone, Copy)]
 pub enum Columns {
     NoColumn,
     RowsOver,
