@@ -1,5 +1,7 @@
 // What sound columns alone decide, short of eigenvalues: (X'X)^-1 by Cholesky, and the normal law of the Durbin-Watson statistic.
 // The k columns of n rows are one run, column after column; residuals do not appear.
+#![tactic(auto)]
+
 mod cholesky;
 mod difference;
 mod lower;
@@ -26,7 +28,7 @@ use roots::sqrt;
 pub type Matrix = [[f64; MAX_COLUMNS]; MAX_COLUMNS];
 
 // Whether all pivots hold, or the first column whose pivot fails. A pivot that is NaN holds.
-#[derive(Drop)]
+#[derive(Clone, Copy)]
 pub enum Pivots {
     Hold,
     Fails(usize),
@@ -116,7 +118,7 @@ pub fn normal_law(columns: &[f64], size: SheetSize, inverse: Matrix) -> NormalLa
 }
 
 // Whether the law serves, or why not: its mean or its variance is not finite, or its variance is not above 0.
-#[derive(Drop)]
+#[derive(Clone, Copy)]
 pub enum LawAnswer {
     Usable(NormalLaw),
     NotFinite,

@@ -1,0 +1,17 @@
+use Rattle.floats.specs.Sums.{sum_of}
+use lib.Ieee.{neg, of_bits}
+use native.Mathlib.Omega.{arith}
+use native.Mathlib.Numerals.{add-one}
+use mathlib.Core.Path.{◌≡◌, refl}
+use Rattle.design.proofs.cholesky.products.Goals as goal
+
+pub loop-m-init : goal.loop-m-init
+unfolding sum_of neg of_bits
+loop-m-init c = (omega arith, refl)
+
+pub loop-m-preserved : goal.loop-m-preserved
+unfolding sum_of
+loop-m-preserved c = (omega arith, rw (c.loop-m.invariant.1, add-one c.loop-m.m))
+
+pub returns : goal.returns
+returns c = let h : c.loop-m.m ≡ c.args.j = omega arith in rw (c.loop-m.invariant.1, h)

@@ -1,0 +1,19 @@
+use Rattle.floats.proofs.ListLaws.{row_in}
+use Rattle.design.specs.Matrix.{zero_row}
+use Rattle.design.proofs.FillLaws.{fill_none, fill_more, fill-row}
+use native.Mathlib.Omega.{arith}
+use mathlib.Core.Path.{◌≡◌, sym}
+use Rattle.design.proofs.traces.cross_row.Goals as goal
+
+pub loop-j-init : goal.loop-j-init
+loop-j-init c = (omega arith, sym (fill_none _ _))
+
+pub column_products-requires : goal.column_products-requires
+column_products-requires c = let a = c.args in
+    omega (arith, row_in a.size.rows c.loop-j-test.true, row_in a.size.rows {i = a.i} {k = a.size.columns} (omega arith))
+
+pub loop-j-preserved : goal.loop-j-preserved
+loop-j-preserved c = (omega arith, rw (c.column_products.ensures, c.loop-j.invariant.1) (sym (fill_more _ c.loop-j.j zero_row)))
+
+pub returns : goal.returns
+returns c = let h : c.loop-j.j ≡ c.args.size.columns = omega arith in rw (c.loop-j.invariant.1, h) (fill-row c.args.size.columns _)
