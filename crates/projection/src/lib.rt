@@ -3,6 +3,8 @@
 // The order of each sum is the Rust's; the order of the work is not. A row of a product of two matrices is worked
 // out as a sum of rows, each times its number, so the inner loop runs along rows; M A M is made of blocks of
 // sixteen terms, each added to every entry before the next. Each entry still gets its terms first to last.
+#![tactic(auto)]
+
 ghost use Rattle.std.specs.Prelude.{◌≡◌, cond, ◌++◌, ℕ, ◌+◌, ◌-◌, ◌*◌, ◌≤◌, ◌<◌, eqb, length, take, drop};
 ghost use Rattle.floats.specs.Words.{◌⊗◌, ◌‼◌};
 ghost use Rattle.floats.specs.Sums.{sum_of};
@@ -55,7 +57,7 @@ fn hat(m: &mut [f64], u: &mut [f64], x: &[f64], inv: &Matrix, size: SheetSize)
     let n = size.rows;
     rows::fill(m, -0.0);
     for i in 0..n {
-        weights(u, x, &inv, size, i);
+        weights(u, x, inv, size, i);
         matrix::add_to_row(m, i, x, n, u);
     }
 }
@@ -89,7 +91,7 @@ fn differences(w: &mut [f64], m: &[f64], n: usize, t: usize, before: &mut [f64],
 }
 
 // Terms of a sum over the rows of M: `count` of them, from term `first` on.
-#[derive(Drop)]
+#[derive(Clone, Copy)]
 struct Block {
     first: usize,
     count: usize,

@@ -1,0 +1,9 @@
+-- After i turns the first i rows have got the block, and the second half is as it was. Assumes nothing.
+use Rattle.projection.proofs.RoomLaws.{block_to}
+use Prim.Native.Nat.{◌≤◌}
+use mathlib.Core.Path.{◌≡◌}
+use lib.ListN.{length}
+use Rattle.projection.proofs.add_block.Given as goal
+
+abbrev pub invariant-loop-i : goal.invariant-loop-i
+invariant-loop-i l = (l.i ≤ l.n) × (length l.room ≡ length l.initial.room) × (l.room ≡ block_to l.n l.block.first l.block.count l.initial.room l.i)

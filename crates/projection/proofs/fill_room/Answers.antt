@@ -1,0 +1,20 @@
+-- M fills the second half, and M A M is worked out from it. Assumes nothing.
+use native.Mathlib.Nat.{add-zero}
+use native.Mathlib.Omega.{arith}
+use mathlib.Core.Path.{◌≡◌, refl, sym, ◌∙◌}
+use Rattle.floats.specs.Tables.{triangle}
+use Rattle.projection.proofs.RoomLaws.{second-lent, array-lent, room_of_lem}
+use Rattle.projection.proofs.fill_room.Goals as goal
+
+pub slice_bounds-residual_maker-end-2 : goal.slice_bounds-residual_maker-end-2
+slice_bounds-residual_maker-end-2 c = sym (array-lent _ _ c.requires.1.1)
+
+pub residual_maker-requires : goal.residual_maker-requires
+residual_maker-requires c = let pre = c.requires in
+    ((second-lent c.place-half.result c.args.room.now (omega (arith, c.place-half.ensures, pre.0.0)) ∙ c.place-half.ensures ∙ add-zero _, pre.0.1), array-lent _ _ pre.1.1, pre.1)
+
+pub returns-then-n-le16 : goal.returns-then-n-le16
+returns-then-n-le16 c = let z : c.place-half.result ≡ triangle c.args.size.rows = c.place-half.ensures ∙ add-zero _ in room_of_lem c.args.x.now c.args.inv.now c.args.size.rows c.args.size.columns c.args.room.now c.requires.0.0 c.residual_maker.new.m _ c.products_of_few.new.room c.residual_maker.ensures refl (rw z at c.products_of_few.ensures)
+
+pub returns-else-n-le16 : goal.returns-else-n-le16
+returns-else-n-le16 c = let z : c.place-half.result ≡ triangle c.args.size.rows = c.place-half.ensures ∙ add-zero _ in room_of_lem c.args.x.now c.args.inv.now c.args.size.rows c.args.size.columns c.args.room.now c.requires.0.0 c.residual_maker.new.m _ c.products_of_many.new.room c.residual_maker.ensures refl (rw z at c.products_of_many.ensures)

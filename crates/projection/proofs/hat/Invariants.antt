@@ -1,0 +1,10 @@
+-- After i turns the first i rows are those of X (X'X)^-1 X'. Assumes nothing.
+use Rattle.floats.specs.Tables.{triangle}
+use Rattle.projection.proofs.ProjectionLaws.{hat_to}
+use Prim.Native.Nat.{◌≤◌}
+use mathlib.Core.Path.{◌≡◌}
+use lib.ListN.{length}
+use Rattle.projection.proofs.hat.Given as goal
+
+abbrev pub invariant-loop-i : goal.invariant-loop-i
+invariant-loop-i l = (l.i ≤ l.n) × (length l.m ≡ triangle l.n) × (length l.u ≡ l.size.columns) × (l.m ≡ hat_to l.x l.inv l.n l.size.columns l.i)

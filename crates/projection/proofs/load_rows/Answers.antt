@@ -1,0 +1,75 @@
+use Rattle.floats.proofs.ListLaws.{row_in}
+use Rattle.floats.proofs.TableLaws.{length-table}
+use Rattle.projection.proofs.ProjectionLaws.{row_at, row_fits, row_copied, loaded-none, loaded-more}
+use Prim.Native.Nat.{◌+◌, ◌*◌, ◌≤◌, ◌<◌, ◌-◌}
+use native.Mathlib.Omega.{arith}
+use native.Mathlib.Nat.{le_antisymm}
+use mathlib.Core.Path.{◌≡◌, refl, ap, ◌∙◌}
+use lib.ListN.{length}
+use borrow.Author.Rules.{rules}
+use Rattle.projection.proofs.load_rows.Goals as goal
+use Rattle.projection.proofs.load_rows.Goals.{then-t-gt0, else-t-gt0}
+
+-- row s ends within w
+row : (c : goal.In-loop-s) → let args = c.args in c.loop-s.s * args.stride + args.stride ≤ args.block.count * args.stride
+row c = row_in _ c.loop-s-test.true
+
+pub copy_row-requires : goal.copy_row-requires
+copy_row-requires c = let args = c.args in let pre = c.requires in row_fits args.m.now args.before.now args.n _ pre.2.0 pre.2.1 (omega (arith, pre.3)) pre.5
+
+pub copy_row-requires-else-t-gt0 : goal.copy_row-requires-else-t-gt0
+copy_row-requires-else-t-gt0 c = let args = c.args in let pre = c.requires in row_fits args.m.now args.before.now args.n _ pre.2.0 pre.2.1 (omega (arith, pre.3)) pre.5
+
+pub copy_row-requires-2 : goal.copy_row-requires-2
+copy_row-requires-2 c = let args = c.args in let pre = c.requires in row_fits args.m.now args.here.now args.n _ pre.2.0 pre.2.1 pre.3 pre.6
+
+pub loop-s-init : goal.loop-s-init
+loop-s-init c = let args = c.args in
+    let pre = c.requires in
+    -- where the ways of the test meet; row 0 has none before it
+    let before : c.if-t-gt0.before ≡ row_at args.m.now args.n (args.block.first - 1) = elim c.if-t-gt0.branch [
+      | then-t-gt0 w ↦ w.before-is ∙ w.copy_row.ensures ∙ row_copied _ _ _ _ pre.5
+      | else-t-gt0 w ↦ let z : 0 ≡ args.block.first - 1 = omega (arith, w.if-t-gt0.false) in w.before-is ∙ w.copy_row-else-t-gt0.ensures ∙ row_copied _ _ _ _ pre.5 ∙ rw z
+    ] in
+    let here = c.copy_row-2.ensures ∙ row_copied args.m.now args.n args.block.first _ pre.6 in
+    let z : args.block.first + 0 ≡ args.block.first = omega arith in
+    (omega arith, refl, ap length before ∙ length-table _ _, ap length here ∙ length-table _ _, (λ h. rw z (before, here)), loaded-none args.stride args.n args.block.first args.m.now args.w.now)
+
+pub overflow_mul-start : goal.overflow_mul-start
+overflow_mul-start c = omega (arith, row c)
+
+pub overflow_add-end : goal.overflow_add-end
+overflow_add-end c = omega (arith, row c)
+
+pub offset_bounds-w-start : goal.offset_bounds-w-start
+offset_bounds-w-start c = omega (arith, row c)
+
+pub slice_bounds-differences-end : goal.slice_bounds-differences-end
+slice_bounds-differences-end c = omega (arith, row c)
+
+pub differences-requires : goal.differences-requires
+differences-requires c = let args = c.args in
+    let pre = c.requires in
+    let loop = c.loop-s in
+    let b : args.block.first + loop.s < args.n = omega (arith, pre.4) in
+    let h = row_in args.stride c.loop-s-test.true in
+    let rows = loop.invariant.4 b in
+    (search rules, pre.2, b, rows.0, rows.1)
+
+pub loop-s-preserved : goal.loop-s-preserved
+loop-s-preserved c = let args = c.args in
+    let loop = c.loop-s in
+    let differences = c.differences in
+    let h = row_in args.stride c.loop-s-test.true in
+    let z : args.block.first + (loop.s + 1) ≡ args.block.first + loop.s + 1 = omega arith in
+    let y : args.block.first + loop.s + 1 - 1 ≡ args.block.first + loop.s = omega arith in (
+      omega arith,
+      search rules,
+      search rules,
+      search rules,
+      rw (z, y) differences.ensures.before_after,
+      loaded-more args.stride args.n args.block.first args.m.now loop.s loop.w differences.new.w (search rules) (omega arith) loop.invariant.5 differences.ensures.w_after,
+    )
+
+pub returns : goal.returns
+returns c = rw (le_antisymm c.loop-s.invariant.0 c.loop-s-test.false) at c.loop-s.invariant.5
