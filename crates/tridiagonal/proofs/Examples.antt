@@ -2,7 +2,7 @@
 use Prim.Native.Nat.{ℕ}
 use mathlib.Core.Path.{◌≡◌, refl}
 use mathlib.Core.List.{List, [], ◌∷◌, map}
-use lib.Ieee.{Float, add, sub, mul, div, neg, lt, eq, of_bits, round, units, odd, size, sum}
+use lib.Ieee.{Float, add, sub, mul, div, neg, lt, eq, of_bits}
 use Rattle.floats.specs.Words.{float}
 use Rattle.floats.specs.Sums.{sum_of}
 use Rattle.floats.specs.Tables.{table}

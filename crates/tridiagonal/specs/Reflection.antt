@@ -1,7 +1,7 @@
 -- Householder's reflections, which make a symmetric matrix tridiagonal (Householder 1958). Reflection c clears column c below the subdiagonal, and row c beside it:
 -- S, the block of rows and columns c + 1 on, becomes H S H with H = I - 2 v v' / v'v. Number t of a vector belongs to row c + 1 + t.
 -- Sums run first to last from -0, each operation rounded once. Definitions only. Assumes nothing.
-use Rattle.std.specs.Prelude.{ℕ, ◌+◌, ◌-◌, ◌&&◌, ◌||◌, cond, List, eqb, ltb, length, set, Float}
+use Rattle.std.specs.Prelude.{ℕ, ◌+◌, ◌-◌, ◌&&◌, cond, List, eqb, ltb, length, set, Float}
 use Rattle.std.specs.Float.Ieee.{neg, lt, eq}
 use Rattle.floats.specs.Words.{◌⊕◌, ◌⊖◌, ◌⊗◌, ◌⊘◌, ◌‼◌, plus_zero, two}
 use Rattle.floats.specs.Sums.{sum_of, sum_squares}

@@ -1,4 +1,6 @@
 // A symmetric matrix made tridiagonal in place, by Householder's reflections, and its two bands. A run holds the lower triangle.
+#![tactic(auto)]
+
 ghost use Rattle.std.specs.Prelude.{◌≡◌, ◌++◌, ◌≤◌, ◌<◌, length, drop};
 ghost use Rattle.floats.specs.Matrix.{whole, half_of};
 ghost use Rattle.floats.specs.Limits.{Square};

@@ -1,0 +1,31 @@
+-- What stands from the group's first row on holds the rows, each a number longer than the row before. Assumes nothing.
+use native.Mathlib.Omega.{arith}
+use lib.ListN.{length-take}
+use Rattle.tridiagonal.proofs.ImageLaws.{group-in, terms-reach, group-terms}
+use borrow.Author.Rules.{rules}
+use Rattle.tridiagonal.proofs.reflection.add_group.Goals as goal
+
+pub slice_bounds-add_rows-end-2 : goal.slice_bounds-add_rows-end-2
+slice_bounds-add_rows-end-2 c = simp length-take (omega arith)
+
+pub offset_bounds-a-start : goal.offset_bounds-a-start
+offset_bounds-a-start c = omega (arith, group-in c.args.n c.args.c c.args.r c.requires.2.0 c.requires.4 c.requires.6 c.place-start.ensures)
+
+-- the group's first row begins within the run
+pub slice_bounds-add_rows-count : goal.slice_bounds-add_rows-count
+slice_bounds-add_rows-count c = let args = c.args in
+    let pre = c.requires in
+    omega (arith, group-in args.n args.c args.r pre.2.0 pre.4 pre.6 c.place-start.ensures)
+
+pub slice_bounds-add_rows-start : goal.slice_bounds-add_rows-start
+slice_bounds-add_rows-start c = omega (arith, group-in c.args.n c.args.c c.args.r c.requires.2.0 c.requires.4 c.requires.6 c.place-start.ensures)
+
+pub add_rows-requires : goal.add_rows-requires
+add_rows-requires c = let args = c.args in
+    let pre = c.requires in
+    (search rules, search rules, terms-reach args.n args.c args.a.now args.v.now args.r args.next _ pre.2.0 pre.4 pre.6 c.place-start.ensures args.p.now pre.0 pre.1)
+
+pub returns : goal.returns
+returns c = let args = c.args in
+    let pre = c.requires in
+    rw (c.add_rows.ensures, group-terms args.n args.c args.a.now args.v.now args.r args.next _ pre.2.0 pre.4 pre.6 c.place-start.ensures args.p.now pre.0 pre.1)

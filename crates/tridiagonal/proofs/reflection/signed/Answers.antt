@@ -1,0 +1,7 @@
+use Rattle.tridiagonal.proofs.reflection.signed.Goals as goal
+
+pub returns-then-first : goal.returns-then-first
+returns-then-first c = rw c.if-first.true
+
+pub returns-else-first : goal.returns-else-first
+returns-else-first c = rw c.if-first.false
