@@ -2,7 +2,7 @@
 use Rattle.std.specs.Prelude.{ℕ, zero, suc, ◌-◌, Bool, false, not, ◌||◌, cond, List, eqb, Float}
 use Rattle.floats.specs.Count.{one_sweep}
 use Rattle.floats.specs.declared.tally.Tally.{Tally}
-use Rattle.ql.specs.Sweep.{Bands, block_end, sweep_of}
+use Rattle.ql.specs.Sweep.{block_end, sweep_of}
 
 -- the limit
 abbrev pub most_sweeps : ℕ

@@ -1,6 +1,8 @@
 // Implicit QL with Wilkinson's shifts on a symmetric tridiagonal matrix: `d` is its diagonal, and
 // `e[i]` couples `d[i]` and `d[i + 1]` (Bowdler, Martin, Reinsch, Wilkinson 1968, "tql1"). The
 // order of the float steps is the Rust's.
+#![tactic(auto)]
+
 ghost use Rattle.std.specs.Prelude.{◌≡◌, ◌+◌, ◌*◌, ◌^◌, ◌≤◌, ◌<◌, length, ◌||◌, cond};
 ghost use Rattle.std.specs.Float.Ieee.{lt, le, neg};
 ghost use Rattle.floats.specs.Words.{◌⊕◌, ◌⊗◌};
@@ -13,7 +15,7 @@ use floats::tally::Tally;
 
 // Where a sweep stands: the sine and cosine of its last rotation, the entry to rotate and what the
 // next diagonal entry loses.
-#[derive(Drop)]
+#[derive(Clone, Copy)]
 struct Rotation {
     s: f64,
     c: f64,
@@ -22,7 +24,7 @@ struct Rotation {
 }
 
 // One rotation's outcome: the next rotation, and what it stores beside it.
-#[derive(Drop)]
+#[derive(Clone, Copy)]
 struct Rotated {
     next: Rotation,
     diagonal: f64,
@@ -161,7 +163,7 @@ fn settle(d: &mut [f64], e: &mut [f64], n: usize, l: usize, work: Tally) -> Tall
 }
 
 // The work of all turns, and whether an index still had a coupling left after its own.
-#[derive(Drop)]
+#[derive(Clone, Copy)]
 pub struct Swept {
     pub work: Tally,
     pub stuck: bool,
