@@ -1,6 +1,6 @@
 -- The kept eigenvalues never rise, are at most n - k, and are each above 1e-10. An insertion keeps a list falling: all that is asked of the order is that
 -- no two numbers come before each other. Assumes nothing.
-use mathlib.Core.Path.{◌≡◌, refl, sym, ap, ◌∙◌}
+use mathlib.Core.Path.{◌≡◌, refl}
 use mathlib.Core.Bool.{Bool, true, false, cond}
 use Prim.Native.Nat.{ℕ, zero, suc, ◌-◌, ◌≤◌, ◌<◌}
 use native.Mathlib.Nat.{le_trans}

@@ -1,13 +1,12 @@
 -- What one comparison of an insertion does to the list; how long the lists are; what is kept of a longer list. Assumes nothing.
 use mathlib.Core.Path.{◌≡◌, refl, sym, ap, ◌∙◌}
 use mathlib.Core.Bool.{Bool, true, false, cond}
-use Prim.Native.Nat.{ℕ, zero, suc, ◌+◌, ◌-◌, ◌≤◌, ◌<◌}
-use native.Mathlib.Nat.{le_trans}
+use Prim.Native.Nat.{ℕ, zero, suc, ◌+◌, ◌≤◌, ◌<◌}
 use native.Mathlib.Numerals.{add-one}
 use native.Mathlib.Omega.{arith}
 use mathlib.Core.List.{List, [], ◌∷◌, ◌++◌, append-nil}
-use lib.ListN.{length, take, drop, get_or, set, length-append, length-take, length-drop}
-use lib.Seq.{slice, slice-cons, slice_empty, take-suc, take-suc-set, drop-set-lt, take-set-lt, append_snoc, set_split, drop-cons, set_at, take_at, drop_at, get_or_at}
+use lib.ListN.{length, take, drop, set}
+use lib.Seq.{slice, slice-cons, slice_empty, take-suc, take-suc-set, drop-set-lt, take-set-lt, append_snoc, set_split, drop-cons, set_at, take_at, get_or_at}
 use lib.Ieee.{Float, nan, lt}
 use Rattle.floats.specs.Words.{◌‼◌}
 use Rattle.floats.specs.Signs.{before}

@@ -1,5 +1,5 @@
 -- Eigenvalues in falling order, cut, and kept: R's dwtest keeps the n - k largest that exceed 1e-10. Definitions only. Assumes nothing.
-use Rattle.std.specs.Prelude.{ℕ, zero, suc, ◌-◌, Bool, true, false, cond, List, [], ◌∷◌, take, Float}
+use Rattle.std.specs.Prelude.{ℕ, zero, suc, ◌-◌, cond, List, [], ◌∷◌, take, Float}
 use Rattle.std.specs.Float.Ieee.{lt}
 use Rattle.floats.specs.Words.{float, ◌‼◌}
 use Rattle.floats.specs.Signs.{before}

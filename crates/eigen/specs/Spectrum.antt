@@ -13,7 +13,6 @@ use Rattle.tridiagonal.specs.Reflection.{tridiagonal_of}
 use Rattle.tridiagonal.specs.Bands.{diagonal_of, couplings_of}
 use Rattle.ql.specs.Ql.{Worked, ql_of, stuck_of}
 use Rattle.eigen.specs.Kept.{kept_of}
-use Rattle.eigen.specs.declared.Numbers.{Numbers}
 use Rattle.eigen.specs.declared.Spectrum.{Spectrum}
 use Rattle.eigen.specs.declared.Spectrum.TheVariants.{MatrixNotFinite, NumberNotFinite, Kept}
 

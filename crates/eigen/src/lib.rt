@@ -1,4 +1,6 @@
 // The eigenvalues of M A that the exact test uses: in falling order, cut to n - k, above 1e-10.
+#![tactic(auto)]
+
 ghost use Rattle.std.specs.Prelude.{◌≡◌, ◌++◌, ◌≤◌, length, take, drop};
 ghost use Rattle.floats.specs.Tables.{triangle};
 ghost use Rattle.floats.specs.Matrix.{whole, half_of};
@@ -17,14 +19,14 @@ use floats::search::Found;
 use floats::tally::Tally;
 
 // How many eigenvalues are kept, the sweeps that they took, and whether an index of the QL step still had a coupling left after its turn.
-#[derive(Drop)]
+#[derive(Clone, Copy)]
 pub struct Numbers {
     pub count: usize,
     pub work: Tally,
     pub stuck: bool,
 }
 
-#[derive(Drop)]
+#[derive(Clone, Copy)]
 pub enum Spectrum {
     // An entry of M A M is not finite.
     MatrixNotFinite,
