@@ -1,4 +1,6 @@
 // Imhof's (1961) integrand over s = ln u, at sixteen points at once.
+#![tactic(auto)]
+
 mod lanes;
 
 ghost use Rattle.std.specs.Prelude.{◌≡◌, map, length};
