@@ -1,16 +1,16 @@
 -- Laws of the weights: a test of every number, looked at from place t on; the weights gathered so far with those still to come; the signs of no weight and of some. Assumes nothing.
 use mathlib.Core.Path.{◌≡◌, refl, sym, ap, ◌∙◌}
-use Prim.Native.Nat.{ℕ, zero, suc, ◌+◌, ◌≤◌, ◌<◌}
+use Prim.Native.Nat.{ℕ, suc, ◌+◌, ◌≤◌, ◌<◌}
 use native.Mathlib.Numerals.{add-one}
 use native.Mathlib.Nat.{suc-ne-zero}
 use native.Mathlib.Omega.{arith}
 use mathlib.Core.Bool.{Bool, true, false, ◌&&◌, cond}
 use mathlib.Core.List.{List, [], ◌∷◌, ◌++◌, append_assoc, append-nil}
-use lib.ListN.{length, take, drop, set, get_or, length-set, length-drop, length-take, take-append-drop}
-use lib.Seq.{drop-cons, drop-length, take-suc-set, drop-set-lt, drop-drop, append_snoc, length-take-le}
+use lib.ListN.{length, take, drop, set, length-set, take-append-drop}
+use lib.Seq.{drop-cons, drop-length, take-suc-set, drop-set-lt, drop-drop, length-take-le}
 use lib.Ieee.{Float, nan, eq}
 use Rattle.floats.specs.Words.{◌⊖◌, ◌‼◌, plus_zero}
-use Rattle.weights.specs.Weights.{weights_of, every, all_above, all_below, Signs, none, signs_of, signs_by}
+use Rattle.weights.specs.Weights.{weights_of, every, all_above, all_below, none, signs_of, signs_by}
 
 module _ (test : Float → Bool) (ws : List Float) where
   -- the numbers from t on: number t, then those from t + 1 on

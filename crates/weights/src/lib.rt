@@ -1,4 +1,6 @@
 // The weights of Imhof's (1961) quadratic form, their signs, and the ends of the range of its integral.
+#![tactic(auto)]
+
 ghost use Rattle.std.specs.Prelude.{◌≡◌, ◌++◌, ◌≤◌, length, drop};
 ghost use Rattle.weights.specs.Weights.{weights_of, all_above, all_below};
 
