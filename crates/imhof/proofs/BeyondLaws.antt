@@ -1,11 +1,9 @@
 -- Of the part room only the first part_room numbers change: at most most_parts parts are laid out in it. Assumes nothing.
-use mathlib.Core.Path.{◌≡◌, refl, sym, ap, ◌∙◌, subst}
+use mathlib.Core.Path.{◌≡◌, refl, sym, ◌∙◌, subst}
 use mathlib.Core.Bool.{Bool, true, false, ◌&&◌}
 use Prim.Native.Nat.{ℕ, ◌+◌, ◌≤◌, ◌<◌}
-use native.Mathlib.Nat.{le_trans}
 use native.Mathlib.Omega.{arith}
-use mathlib.Core.List.{List, []}
-use lib.Dec.{lit≤}
+use mathlib.Core.List.{List}
 use lib.ListN.{length, drop, set}
 use lib.Seq.{drop-set-lt}
 use lib.Ieee.{Float}

@@ -20,7 +20,7 @@ use Rattle.imhof.specs.declared.Quadrature.TheVariants.{Sum}
 use Rattle.imhof.specs.Imhof.{integral_of, quadrature_of}
 use Rattle.imhof.specs.Room.{PartRoom, stored, laid_out, parts_in}
 use Rattle.imhof.proofs.RoomLaws.{laid_more, laid-over, laid_in, in-laid, length-in}
-use Rattle.imhof.proofs.StageLaws.{first-broken, was_settled, was-bisected, was-refused, stays-settled, stays-refused, turns-stay, stage-stays, split, length-split}
+use Rattle.imhof.proofs.StageLaws.{first-broken, was_settled, was-bisected, was-refused, stays-settled, stays-refused, turns-stay, stage-stays, length-split}
 use Rattle.imhof.proofs.Tiling.{counted}
 
 -- one part laid out

@@ -2,16 +2,16 @@
 -- counted in `Counts x s n`; then orders are those of whole numbers. One idea: rounding keeps the order and changes no number that the format holds, and twice a number is one. Assumes nothing.
 use mathlib.Core.Path.{◌≡◌, refl, sym, ap, ◌∙◌, subst}
 use mathlib.Core.Logic.{◌⊎◌, inl, inr, ⊎_elim}
-use mathlib.Core.Bool.{Bool, true, false, not, ◌&&◌, ◌||◌, cond, beq, true≢false}
-use Prim.Native.Nat.{ℕ, zero, suc, ◌+◌, ◌-◌, ◌*◌, ◌/◌, ◌%◌, ◌^◌, ◌≤◌, ◌<◌}
-use native.Mathlib.Nat.{eq-or-lt_of_le, eq-zero-or-pos, le_trans, le_of_eq, le_antisymm, lt_of_le_of_lt, mul_comm, mul_assoc, mul_left_comm, mul_right_comm, mul-le-mul_right, le_of_mul-le-mul_right, eq_of_mul-eq-mul_right, mul-pos, zero-mul, one-mul, mul-one, add-mul, mul-sub, sub-eq-zero_of_le, pow-succ', lt_of_not-le, not-le_of_lt, le_of_suc-le-suc, sub-add_cancel, add-suc, lt_of_mul-lt-mul_right, mul-lt-mul_of_pos_right}
+use mathlib.Core.Bool.{Bool, true, false, ◌&&◌, ◌||◌, cond, true≢false}
+use Prim.Native.Nat.{ℕ, zero, suc, ◌+◌, ◌-◌, ◌*◌, ◌%◌, ◌^◌, ◌≤◌, ◌<◌}
+use native.Mathlib.Nat.{eq-or-lt_of_le, eq-zero-or-pos, le_trans, le_of_eq, mul_comm, mul_assoc, mul_left_comm, mul_right_comm, mul-le-mul_right, le_of_mul-le-mul_right, eq_of_mul-eq-mul_right, mul-pos, zero-mul, one-mul, mul-one, add-mul, mul-sub, sub-eq-zero_of_le, pow-succ', lt_of_not-le, not-le_of_lt, le_of_suc-le-suc, sub-add_cancel, add-suc, lt_of_mul-lt-mul_right, mul-lt-mul_of_pos_right}
 use native.Mathlib.Omega.{arith}
 use lib.IntN.{ℤ, pos, negsuc}
-use lib.Dec.{T, ltb, eqb, leb, leb→le, ltb→lt, eqb→eq}
+use lib.Dec.{T, ltb, eqb, leb, leb→le, ltb→lt}
 use borrow.Author.Tests.{ltb-true, ltb-false, eqb-true, lt-ltb, eq-eqb}
 use lib.Pow.{pow-add, pow_pos, pow-lt}
-use lib.Ieee.{Float, nan, inf, fin, Format, prec, emax, low, up, down, unlike, units, odd, round, sum, add, mul, lt, eq, le, below, level, fits}
-use lib.Ieee.Fits.{up_pos, down_pos, and_l, and_r, round_is}
+use lib.Ieee.{Float, nan, inf, fin, Format, prec, emax, low, up, down, unlike, units, odd, round, sum, add, mul, le, below, level, fits}
+use lib.Ieee.Fits.{down_pos, and_l, and_r, round_is}
 use lib.Ieee.Bits.{is_true}
 use lib.Ieee.Exact.{HasValue, units_val, round_exact}
 use lib.Ieee.Order.{kept, drop, round_mono}

@@ -1,18 +1,18 @@
 -- The parts of every stage lie within the range, each with its left end at most its right end, where the range's own ends stand so and are below 2 ^ 1023 in size. With the chain of
 -- Tiling: they tile the range. One idea: the middle of a part lies between its ends. Assumes nothing.
-use mathlib.Core.Path.{◌≡◌, refl, sym, ap, ◌∙◌, subst}
-use mathlib.Core.Bool.{Bool, true, false, not, ◌||◌, true≢false}
-use mathlib.Core.List.{List, [], ◌∷◌}
-use Prim.Native.Nat.{ℕ, zero, suc, ◌+◌, ◌*◌, ◌^◌, ◌≤◌, ◌<◌}
-use native.Mathlib.Nat.{mul-one, one-mul}
+use mathlib.Core.Path.{◌≡◌, sym, subst}
+use mathlib.Core.Bool.{Bool, true, false, true≢false}
+use mathlib.Core.List.{List}
+use Prim.Native.Nat.{ℕ, ◌*◌, ◌^◌, ◌<◌}
+use native.Mathlib.Nat.{mul-one}
 use native.Mathlib.Omega.{arith}
-use lib.IntN.{ℤ, pos, negsuc}
-use lib.Dec.{T, ltb}
+use lib.IntN.{ℤ}
+use lib.Dec.{T}
 use borrow.Author.Tests.{ltb-true}
 use lib.ListN.{length}
 use lib.Ieee.{Float, nan, inf, fin, binary64, up, down, lt, le, fits, of_bits}
 use lib.Ieee.Fits.{mul-fits}
-use Rattle.floats.specs.Words.{◌⊕◌, ◌⊗◌, float}
+use Rattle.floats.specs.Words.{◌⊕◌, float}
 use Rattle.floats.specs.Signs.{abs_of}
 use Rattle.floats.specs.declared.tally.Tally.{Tally}
 use Rattle.imhof.specs.declared.Part.{Part}

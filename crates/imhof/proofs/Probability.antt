@@ -2,13 +2,12 @@
 -- bisection, and none where no integral was needed; there is one part more than bisections in the room, at most most_parts. There is no exact value exactly where no weight is left.
 -- One idea: the values that are added up are finite, since a part that is not is refused. Assumes nothing.
 use mathlib.Core.Path.{◌≡◌, refl, sym, ap, ◌∙◌, subst}
-use mathlib.Core.Logic.{◌⊎◌, inl, inr, ⊎_elim}
-use mathlib.Core.Bool.{Bool, true, false, ◌&&◌, cond, true≢false}
-use mathlib.Core.List.{List, [], ◌∷◌, map}
-use Prim.Native.Nat.{ℕ, zero, suc, ◌+◌, ◌*◌, ◌≤◌, ◌<◌}
+use mathlib.Core.Bool.{Bool, true, false, ◌&&◌, true≢false}
+use mathlib.Core.List.{List, [], ◌∷◌}
+use Prim.Native.Nat.{ℕ, ◌+◌, ◌*◌, ◌≤◌, ◌<◌}
 use native.Mathlib.Omega.{arith}
-use lib.ListN.{length, get_or, length-map, get_or-map}
-use lib.Ieee.{Float, nan, is_nan, of_bits}
+use lib.ListN.{length, length-map, get_or-map}
+use lib.Ieee.{Float, is_nan, of_bits}
 use lib.Ieee.Scale.{finite}
 use Rattle.floats.specs.Words.{◌‼◌, plus_zero, one}
 use Rattle.floats.specs.Sums.{sum_run}
@@ -22,7 +21,6 @@ use Rattle.imhof.specs.declared.Standing.TheVariants.{Open, Settled, Refused}
 use Rattle.imhof.specs.declared.Quadrature.{Quadrature}
 use Rattle.imhof.specs.declared.Quadrature.TheVariants.{Sum, Broken}
 use Rattle.imhof.specs.declared.Estimate.{Estimate}
-use Rattle.imhof.specs.declared.Exact.{Exact}
 use Rattle.imhof.specs.declared.Exact.TheVariants.{NoWeight, NotFinite, Value}
 use Rattle.imhof.specs.Integrand.{integrand_of}
 use Rattle.imhof.specs.Rule.{gk15_of}

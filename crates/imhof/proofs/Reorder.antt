@@ -1,6 +1,6 @@
 -- Lists with the same elements in another order, built by putting in one element at a time. One idea: of two elements put in one after the other, either may go first (`swap`);
 -- so an element can be taken out of both lists, or put into both, at any place. `reordered` gives the library's permutations. Assumes nothing.
-use mathlib.Core.Path.{◌≡◌, refl, sym, ◌∙◌, subst}
+use mathlib.Core.Path.{◌≡◌, refl, sym, ◌∙◌}
 use mathlib.Core.List.Permᴰ
 use mathlib.Core.List.{List, [], ◌∷◌, ◌++◌, Perm, Permᴰ}
 
@@ -32,7 +32,7 @@ module _ {A : Type 0} where
   swap : {u p : A} {a b c : List A} → Insert u b c → Insert p a b → (d : List A) × Insert p d c × Insert u a d
   swap {a = a} (here {y = y} e) j = (y ∷ a, there j, here e)
   swap (there {ys = c} i) (here e) = (c, here e, i)
-  swap (there {y = y} i) (there j) = let s = swap i j in (y ∷ s.0, there s.1, there s.2)
+  swap {u = u} {p = p} (there {xs = xs'} {ys = c} i) (there {y = y} {xs = xs} j) = let s = swap {a = xs} i j in (y ∷ s.0, there s.1, there s.2)
 
   -- an element taken out of both lists
   pub take_out : {p : A} {xs ys cs : List A} → Insert p ys xs → Same xs cs → (ds : List A) × Insert p ds cs × Same ys ds

@@ -1,18 +1,16 @@
 -- Laws of the part room: what a store of one part does to the others, and that a list of parts laid out in the room can be read back, stored into, and grown.
 -- One idea: stores of different parts touch different numbers, so they commute, and of two stores of the same part the last counts. Assumes nothing.
 use mathlib.Core.Path.{◌≡◌, refl, sym, ap, ap₂, ◌∙◌}
-use mathlib.Core.Logic.{◌⊎◌, inl, inr, ⊎_elim, ◌≢◌}
+use mathlib.Core.Logic.{⊎_elim, ◌≢◌}
 use mathlib.Core.List.{List, [], ◌∷◌, ◌++◌, map, append_assoc}
 use Prim.Native.Nat.{ℕ, zero, suc, ◌+◌, ◌-◌, ◌≤◌, ◌<◌}
 use native.Mathlib.Nat.{not-suc-le-zero, eq-or-lt_of_le}
-use native.Mathlib.Numerals.{add-one}
 use native.Mathlib.Omega.{arith}
 use lib.ListN.{length, get_or, set, take, drop, length-set, length-append, length-drop, length-map, get_or-map, get_or-append}
 use lib.Seq.{get_or-set_same, get_or-set_other, set-get_or, set-set, set_comm, set_out, set_at, set-append_left, get_or_at, ext_get_or, take-suc, take-length, length-take-le, get_or-take, get_or-drop}
 use lib.Ieee.{Float, nan}
 use Rattle.floats.specs.Words.{◌‼◌}
 use Rattle.floats.specs.Turns.{turns}
-use Rattle.floats.specs.Tables.{table}
 use Rattle.floats.proofs.TurnLaws.{turns_more, turns_same}
 use Rattle.floats.proofs.TableLaws.{length-table, get_d-table}
 use Rattle.imhof.specs.declared.Part.{Part}

@@ -4,7 +4,7 @@ use mathlib.Core.Logic.{◌⊎◌, inl, inr, ⊎_elim}
 use mathlib.Core.Bool.{Bool, true, false, ◌&&◌, cond}
 use mathlib.Core.List.{List, [], ◌∷◌}
 use Prim.Native.Nat.{ℕ, zero, suc, ◌+◌, ◌-◌, ◌≤◌, ◌<◌}
-use native.Mathlib.Nat.{eq-or-lt_of_le, not-suc-le-zero}
+use native.Mathlib.Nat.{eq-or-lt_of_le}
 use native.Mathlib.Numerals.{add-one}
 use native.Mathlib.Omega.{arith}
 use lib.ListN.{length, length-append, length-set}
@@ -15,7 +15,6 @@ use Rattle.floats.specs.Turns.{turns}
 use Rattle.floats.specs.Count.{no_work, one_bisection}
 use Rattle.floats.specs.declared.tally.Tally.{Tally}
 use Rattle.imhof.specs.declared.Part.{Part}
-use Rattle.imhof.specs.declared.Standing.{Standing}
 use Rattle.imhof.specs.declared.Standing.TheVariants.{Open, Settled, Refused}
 use Rattle.imhof.specs.Rule.{gk15_of}
 use Rattle.imhof.specs.Parts.{part_at, errors_of, worst_of, left_half, right_half, bisected_at, finite_part, looked_at, Stage, stage, tolerance, one_rule, first_stage, next_stage, stage_after}

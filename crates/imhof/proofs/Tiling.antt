@@ -1,26 +1,20 @@
 -- After any number of turns the parts are a reordering of a chain from one end of the range to the other: neighbours share an end to the bit, also where a middle equals an end. There
 -- is one part more than bisections, and no more bisections than turns; there are 15 evaluations and 30 more for each bisection. One idea: a bisection puts two links for one. Assumes nothing.
 use mathlib.Core.Path.{◌≡◌, refl, sym, ap, ◌∙◌, subst}
-use mathlib.Core.Logic.{◌⊎◌, inl, inr, ⊎_elim}
-use mathlib.Core.Bool.{Bool, true, false, cond}
+use mathlib.Core.Logic.{⊎_elim}
+use mathlib.Core.Bool.{true}
 use mathlib.Core.List.{List, [], ◌∷◌, ◌++◌, Perm, append_assoc}
 use Prim.Native.Nat.{ℕ, zero, suc, ◌+◌, ◌-◌, ◌*◌, ◌≤◌, ◌<◌}
 use native.Mathlib.Nat.{eq-or-lt_of_le}
 use native.Mathlib.Numerals.{add-one}
 use native.Mathlib.Omega.{arith}
-use lib.ListN.{length, get_or, take, drop, set, length-set, length-append, length-map}
+use lib.ListN.{length, take, drop}
 use lib.Seq.{take-suc, take-length, length-take-le, split_at, set_split, set_out, get_or-take}
 use lib.Ieee.{Float}
-use Rattle.floats.specs.Words.{◌‼◌}
-use Rattle.floats.specs.Signs.{before}
-use Rattle.floats.specs.Turns.{turns}
-use Rattle.floats.specs.Count.{no_work}
 use Rattle.floats.specs.declared.tally.Tally.{Tally}
 use Rattle.imhof.specs.declared.Part.{Part}
-use Rattle.imhof.specs.declared.Standing.{Standing}
-use Rattle.imhof.specs.declared.Standing.TheVariants.{Open, Settled, Refused}
-use Rattle.imhof.specs.Rule.{gk15_of, middle_of}
-use Rattle.imhof.specs.Parts.{part_at, errors_of, last_greatest, worst_of, without, left_half, right_half, bisected_at, finite_part, Stage, stage, one_rule, next_stage, stage_after}
+use Rattle.imhof.specs.Rule.{gk15_of}
+use Rattle.imhof.specs.Parts.{part_at, worst_of, without, left_half, right_half, bisected_at, finite_part, stage_after}
 use Rattle.imhof.proofs.Reorder.{Insert, here, there, Same, none, more, insert-last, insert-middle, take_out, put_in, reordered}
 use Rattle.imhof.proofs.StageLaws.{split, finite_halves, first-open, stage-next, length-split}
 use Rattle.imhof.proofs.EveryStage.{worst-inside, next-cases, every-stage}

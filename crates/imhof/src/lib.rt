@@ -1,5 +1,7 @@
 // Imhof's (1961) probability that a quadratic form in normal variables is below zero, by adaptive
 // Gauss-Kronrod quadrature: from the eigenvalues and the statistic to the exact lower tail.
+#![tactic(auto)]
+
 ghost use Rattle.std.specs.Prelude.{◌≡◌, true, ◌≤◌, length};
 ghost use Rattle.floats.specs.Limits.{max_rows};
 ghost use Rattle.floats.specs.Count.{no_work};
@@ -25,7 +27,7 @@ pub const MOST_PARTS: usize = MOST_BISECTIONS + 1;
 pub const PART_ROOM: usize = 4 * MOST_PARTS;
 
 // A part of the range: its ends, its integral by Kronrod's rule, and the distance from Gauss's.
-#[derive(Drop)]
+#[derive(Clone, Copy)]
 pub struct Part {
     pub lo: f64,
     pub hi: f64,
@@ -34,7 +36,7 @@ pub struct Part {
 }
 
 // Whether another bisection may follow, the errors are small enough, or a number was not finite.
-#[derive(Drop)]
+#[derive(Clone, Copy)]
 pub enum Standing {
     Open,
     Settled,
@@ -42,7 +44,7 @@ pub enum Standing {
 }
 
 // The sums of the parts' values and of their errors, first to last, and the work.
-#[derive(Drop)]
+#[derive(Clone, Copy)]
 pub struct Integral {
     pub value: f64,
     pub error: f64,
@@ -50,7 +52,7 @@ pub struct Integral {
 }
 
 // An integral, or that a number was not finite on the way.
-#[derive(Drop)]
+#[derive(Clone, Copy)]
 pub enum Quadrature {
     Sum(Integral),
     Broken,
@@ -58,7 +60,7 @@ pub enum Quadrature {
 
 // A probability as it came out, the same clamped to [0, 1], the work it took, and whether the final error sum is small enough:
 // yes where no integral was needed.
-#[derive(Drop)]
+#[derive(Clone, Copy)]
 pub struct Estimate {
     pub raw: f64,
     pub probability: f64,
@@ -66,7 +68,7 @@ pub struct Estimate {
     pub small: bool,
 }
 
-#[derive(Drop)]
+#[derive(Clone, Copy)]
 pub enum Exact {
     // Each eigenvalue equals the statistic: there is no exact value.
     NoWeight,

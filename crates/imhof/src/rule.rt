@@ -8,7 +8,7 @@ ghost use Rattle.imhof.specs.Rule.{gk15_of, middle_of, points_of, rule_of};
 use super::Part;
 use integrand::integrands;
 
-#[derive(Drop)]
+#[derive(Clone, Copy)]
 pub struct Halves {
     pub left: Part,
     pub right: Part,

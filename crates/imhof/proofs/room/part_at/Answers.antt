@@ -1,0 +1,7 @@
+use Rattle.imhof.specs.Room.{stored_at}
+use mathlib.Core.Path.{refl}
+use Rattle.imhof.proofs.room.part_at.Goals as goal
+
+pub returns : goal.returns
+unfolding stored_at
+returns c = refl

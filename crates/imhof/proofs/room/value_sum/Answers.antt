@@ -1,0 +1,10 @@
+use Rattle.imhof.proofs.RoomLaws.{run_in}
+use Rattle.imhof.specs.Room.{values, stored_at}
+use Rattle.floats.specs.Sums.{sum_run}
+use native.Mathlib.Omega.{arith}
+use mathlib.Core.Path.{refl, ap, ◌∙◌}
+use Rattle.imhof.proofs.room.value_sum.Goals as goal
+
+pub returns : goal.returns
+unfolding stored_at
+returns c = c.sum.ensures ∙ ap sum_run (run_in (λ p. p.value) values c.args.n c.args.room.now (λ i. refl) refl (omega arith))
