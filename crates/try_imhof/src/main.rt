@@ -2,6 +2,8 @@
 // oracle's first build. Prints each set that ends otherwise, and the counts. The comparison with many sets, measure/imhof/compare, asks it too.
 // A set is 9 words of 8 bytes, the least byte first: what is asked (0 the probability, 1 the integral between two ends), how many numbers
 // follow, MAX_ROWS at most, the statistic or the low end, the high end; then how it must end. Last the numbers: eigenvalues or weights.
+#![tactic(auto)]
+
 ghost use Rattle.std.specs.Prelude.{◌+◌, ◌*◌, ◌^◌, ◌<◌, ◌≤◌, length};
 ghost use Rattle.floats.specs.Limits.{max_rows};
 
@@ -9,7 +11,8 @@ use floats::bits::{bits_of, float_at, little_endian};
 use floats::limits::MAX_ROWS;
 use floats::tally::Tally;
 use imhof::{Exact, PART_ROOM, Quadrature};
-use libc::{STDIN_FILENO, STDOUT_FILENO};
+use std::io;
+use std::io::Read;
 
 const MOST_SETS: usize = 1_000_000;
 
@@ -21,7 +24,7 @@ const VALUE: u64 = 2;
 
 // How a set ends. A value has the bits of the probability before it is clamped and after, or of the integral and the summed error;
 // the rest is 0 where there is none.
-#[derive(Drop)]
+#[derive(Clone, Copy)]
 struct Ending {
     kind: u64,
     value: u64,
@@ -102,33 +105,21 @@ fn is_same(a: Ending, b: Ending) -> bool {
     a.evaluations == b.evaluations
 }
 
-fn print_number(text: &[u8], n: u64) {
-    io::write_all(STDOUT_FILENO, text);
-    io::print_decimal(STDOUT_FILENO, n);
+fn print_ending(rt: &impl Print, text: &str, e: Ending) -> io::Result<()> {
+    let (kind, value, beside) = (e.kind, e.value, e.beside);
+    let (bisections, evaluations) = (e.bisections, e.evaluations);
+    print!(rt; "{text}{kind} {value:016x} {beside:016x} {bisections} {evaluations}")
 }
 
-fn print_bits(text: &[u8], bits: u64) {
-    io::write_all(STDOUT_FILENO, text);
-    io::print_hex(STDOUT_FILENO, bits, 16);
+fn print_wrong(rt: &impl Print, i: usize, got: Ending, want: Ending) -> io::Result<()> {
+    print!(rt; "set {i}")?;
+    print_ending(rt, " ends ", got)?;
+    print_ending(rt, ", not ", want)?;
+    println!(rt)
 }
 
-fn print_ending(text: &[u8], e: Ending) {
-    print_number(text, e.kind);
-    print_bits(b" ", e.value);
-    print_bits(b" ", e.beside);
-    print_number(b" ", e.bisections);
-    print_number(b" ", e.evaluations);
-}
-
-fn print_wrong(i: usize, got: Ending, want: Ending) {
-    print_number(b"set ", i as u64);
-    print_ending(b" ends ", got);
-    print_ending(b", not ", want);
-    io::write_all(STDOUT_FILENO, b"\n");
-}
-
-fn print_cut() {
-    io::write_all(STDOUT_FILENO, b"the input is cut short\n");
+fn print_cut(rt: &impl Print) -> io::Result<()> {
+    println!(rt; "the input is cut short")
 }
 
 // The numbers whose patterns stand in `bytes`, at the start of `numbers`.
@@ -141,7 +132,7 @@ fn read_numbers(bytes: &[u8], count: usize, numbers: &mut [f64])
 }
 
 // Sets by how they end, where that is as stored, and the others.
-#[derive(Drop)]
+#[derive(Clone, Copy)]
 struct Score {
     empty: usize,
     broken: usize,
@@ -186,46 +177,63 @@ fn scored(s: Score, right: bool, kind: u64) -> Score
     }
 }
 
-fn print_score(sets: usize, s: Score) {
-    print_number(b"sets: ", sets as u64);
-    print_number(b", without a weight ", s.empty as u64);
-    print_number(b", not finite ", s.broken as u64);
-    print_number(b", with a value ", s.value as u64);
-    print_number(b"; not as stored: ", s.wrong as u64);
-    io::write_all(STDOUT_FILENO, b"\n");
+fn print_score(rt: &impl Print, sets: usize, s: Score) -> io::Result<()> {
+    let (empty, broken, value, wrong) = (s.empty, s.broken, s.value, s.wrong);
+    print!(rt; "sets: {sets}, without a weight {empty}, not finite {broken}")?;
+    println!(rt; ", with a value {value}; not as stored: {wrong}")
 }
 
 // Whether set `i`, whose head was read, ends as stored. The rooms are as long as the longest set.
-fn replay(i: usize, head: &[u8; 72], count: usize, bytes: &mut [u8], numbers: &mut [f64]) -> bool
+fn replay(
+    rt: &(impl Input + Print),
+    i: usize,
+    head: &[u8; 72],
+    count: usize,
+    bytes: &mut [u8],
+    numbers: &mut [f64],
+) -> io::Result<bool>
     requires { (count ≤ max_rows) × (8 * count ≤ length bytes.old) × (count ≤ length numbers.old) }
 {
     let size = 8 * count;
-    if io::read_full(STDIN_FILENO, &mut bytes[..size]) != size {
-        print_cut();
-        return false;
+    if rt.reader().read_exact(&mut bytes[..size]).is_err() {
+        print_cut(rt)?;
+        return Ok(false);
     }
     read_numbers(bytes, count, numbers);
     let got = ending_of(head, &numbers[..count]);
     let want = stored_ending(head);
     if is_same(got, want) {
-        return true;
+        return Ok(true);
     }
-    print_wrong(i, got, want);
-    false
+    print_wrong(rt, i, got, want)?;
+    Ok(false)
 }
 
-fn replay_set(i: usize, head: &[u8; 72]) -> bool {
+fn replay_set(rt: &(impl Input + Print), i: usize, head: &[u8; 72]) -> io::Result<bool> {
     let count = little_endian(head, 8, 8) as usize;
     if count > MAX_ROWS {
-        io::write_all(STDOUT_FILENO, b"a set is too long\n");
-        return false;
+        println!(rt; "a set is too long")?;
+        return Ok(false);
     }
     let mut bytes = [0u8; 8 * MAX_ROWS];
     let mut numbers = [0.0f64; MAX_ROWS];
-    replay(i, head, count, &mut bytes, &mut numbers)
+    replay(rt, i, head, count, &mut bytes, &mut numbers)
 }
 
-fn main() {
+// Whether another set's head was read. Where the input ends in the midst of one, it says so.
+fn read_head(rt: &(impl Input + Print), head: &mut [u8; 72]) -> io::Result<bool> {
+    let mut input = rt.reader();
+    if input.read_exact(&mut head[..1]).is_err() {
+        return Ok(false);
+    }
+    if input.read_exact(&mut head[1..]).is_err() {
+        print_cut(rt)?;
+        return Ok(false);
+    }
+    Ok(true)
+}
+
+fn main(rt: HostRuntime) -> io::Result<()> {
     let mut score = Score {
         empty: 0,
         broken: 0,
@@ -234,14 +242,14 @@ fn main() {
     };
     for i in 0..MOST_SETS {
         let mut head = [0u8; 72];
-        let size = io::read_full(STDIN_FILENO, &mut head);
-        if size != 72 {
-            if size != 0 {
-                print_cut();
-            }
-            print_score(i, score);
-            return;
+        if !read_head(&rt, &mut head)? {
+            return print_score(&rt, i, score);
         }
-        score = scored(score, replay_set(i, &head), little_endian(&head, 32, 8));
+        score = scored(
+            score,
+            replay_set(&rt, i, &head)?,
+            little_endian(&head, 32, 8),
+        );
     }
+    Ok(())
 }
