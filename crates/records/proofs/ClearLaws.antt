@@ -7,7 +7,7 @@ use native.Mathlib.Omega.{arith}
 use lib.ListN.{length, drop, set, get_or, replicate, length-replicate, length-append, length-drop}
 use lib.Seq.{set_at, drop-cons}
 use Rattle.imhof.specs.declared.Part.{Part}
-use Rattle.records.proofs.Walk.{no_part}
+use Rattle.records.proofs.LookLaws.{no_part}
 
 replicate_more : (z : Part) (n : ℕ) (r : List Part) → replicate n z ++ (z ∷ r) ≡ replicate (suc n) z ++ r
 replicate_more z zero r = refl

@@ -1,6 +1,3 @@
-pub mod Walk
-pub mod ZeroCall
-pub mod Local
 pub mod ClearLaws
 pub mod TurnLaws
 pub mod LookLaws

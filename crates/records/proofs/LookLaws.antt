@@ -17,7 +17,10 @@ use Rattle.floats.proofs.ListLaws.{sum_same}
 use Rattle.imhof.specs.declared.Part.{Part}
 use Rattle.imhof.specs.Parts.{part_at, values_of, errors_of, last_greatest, worst_of}
 use Rattle.records.specs.Records.{unseen_of, noted_of, look_of}
-use Rattle.records.proofs.Walk.{no_part}
+
+-- what stands past the end
+abbrev pub no_part : Part
+no_part = record { lo = nan; hi = nan; value = nan; error = nan }
 
 pub look_none : (ps : List Part) → unseen_of (part_at ps 0) ≡ look_of ps 0
 unfolding look_of turns
@@ -34,6 +37,7 @@ one_of false a b n ha hb = hb
 -- the place of the greatest error is one of the places looked at
 pub worst-below : (ps : List Part) (n : ℕ) → 0 < n → (look_of ps n).worst < n
 unfolding look_of turns
+worst-below ps zero h = elim h [ ]
 worst-below ps (suc zero) h = one_of (before (part_at ps 0).error (part_at ps 0).error) 0 0 1 h h
 worst-below ps (suc (suc k)) h =
     let g = worst-below ps (suc k) (omega arith) in

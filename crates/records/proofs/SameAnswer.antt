@@ -26,9 +26,8 @@ use Rattle.imhof.proofs.StageLaws.{next-settled, next-bisected, next-refused, st
 use Rattle.records.specs.declared.course.Look.{Look}
 use Rattle.records.specs.declared.course.Course.{Course}
 use Rattle.records.specs.Records.{look_of, course_of, start_by, split_of, found_of, Work}
-use Rattle.records.proofs.Walk.{no_part}
 use Rattle.records.proofs.TurnLaws.{turned-full, turned-small, turned-broken, turned-halved}
-use Rattle.records.proofs.LookLaws.{look-value, look-error, look-worst, look-greatest, worst-below}
+use Rattle.records.proofs.LookLaws.{no_part, look-value, look-error, look-worst, look-greatest, worst-below}
 use Rattle.records.proofs.WorkLaws.{after, decided, none-course, none-records, next-course, next-records, stays, length-work}
 
 -- ---- the three stores of a bisection, seen in the first records

@@ -14,7 +14,7 @@ use imhof::{Integral, MOST_PARTS, Part, Quadrature};
 
 // What a look at the records found: the sums of their values and of their errors, first to last, and the place and the record of
 // the greatest error, the last among equals.
-#[derive(Drop)]
+#[derive(Clone, Copy)]
 pub struct Look {
     pub value: f64,
     pub error: f64,
@@ -24,7 +24,7 @@ pub struct Look {
 
 // How the quadrature stands. Where there is `more` to do, `left` and `right` are to take the place of record `worst`; else
 // `value` and `error` are the sums, unless a number was not finite (`broken`).
-#[derive(Drop)]
+#[derive(Clone, Copy)]
 pub struct Course {
     pub more: bool,
     pub broken: bool,

@@ -1,5 +1,7 @@
 // The quadrature over a lent list of part records: the steps of the four-run form, working in the records themselves. A function that
-// is lent the list is proved by a walk of its code; it only reads, stores and calls, and all float work is in `course`, on values.
+// is lent the list only reads, stores and calls, and all float work is in `course`, on values.
+#![tactic(auto)]
+
 ghost use Rattle.std.specs.Prelude.{◌≡◌, ◌++◌, ◌<◌, ◌≤◌, length, replicate, drop};
 ghost use Rattle.imhof.specs.Integrand.{integrand_of};
 ghost use Rattle.imhof.specs.Imhof.{quadrature_of};
@@ -13,7 +15,7 @@ use imhof::{MOST_PARTS, Part, Quadrature};
 
 mod course;
 
-#[derive(Drop)]
+#[derive(Clone, Copy)]
 pub enum Answer {
     // The list is shorter than MOST_PARTS records: nothing was worked out.
     RoomShort,
