@@ -1,5 +1,7 @@
 // The answer of the test: what is asked for, document 01's refusals and paths, the result with its marks, and the lengths of
 // the lent rooms. The crates below say in their own words what they found; document 01's numbers stand here.
+#![tactic(auto)]
+
 ghost use Rattle.std.specs.Prelude.{◌≡◌};
 ghost use Rattle.outcome.specs.Codes.{alternative_of, choice_of};
 ghost use Rattle.outcome.specs.Result.{no_law, direct, fallen_back, worked_out, refused_of, accepted_of, wants_exact};
@@ -14,7 +16,7 @@ use floats::tally::Tally;
 use imhof::Estimate;
 
 // Of autocorrelation: positive, negative, or either.
-#[derive(Drop)]
+#[derive(Clone, Copy)]
 pub enum Alternative {
     Greater,
     Less,
@@ -22,7 +24,7 @@ pub enum Alternative {
 }
 
 // Exact by default below EXACT_BELOW rows, else normal.
-#[derive(Drop)]
+#[derive(Clone, Copy)]
 pub enum Choice {
     Default,
     Exact,
@@ -30,7 +32,7 @@ pub enum Choice {
 }
 
 // What a sheet is asked once its runs are checked: the statistic, the alternative, and how many rows it has.
-#[derive(Drop)]
+#[derive(Clone, Copy)]
 pub struct Asked {
     pub statistic: f64,
     pub alternative: Alternative,
@@ -38,14 +40,14 @@ pub struct Asked {
 }
 
 // Document 01's number and place of a refusal; 0 and 0 where nothing is refused.
-#[derive(Drop)]
+#[derive(Clone, Copy)]
 pub struct Refusal {
     pub number: usize,
     pub place: usize,
 }
 
 // What the exact way did: whether it fell back, how many eigenvalues it kept, its work, and whether what it did came to its end.
-#[derive(Drop)]
+#[derive(Clone, Copy)]
 pub struct Leaving {
     pub fallback: bool,
     pub kept: usize,
@@ -54,7 +56,7 @@ pub struct Leaving {
 }
 
 // What the test answers. A refusal holds its number, its place and zeros.
-#[derive(Drop)]
+#[derive(Clone, Copy)]
 pub struct Outcome {
     pub refusal: Refusal,
     pub statistic: f64,
