@@ -3,6 +3,8 @@
 // input comes from compare.py, which holds the steps against the oracle's.
 // A call is 5 words of 8 bytes, the least byte first: n, k, how many numbers follow, the alternative
 // (0 greater, 1 less, 2 two-sided), the statistic's pattern; then the patterns of the columns' numbers.
+#![tactic(auto)]
+
 mod print;
 
 ghost use Rattle.std.specs.Prelude.{◌*◌, ◌≤◌, length};
@@ -13,73 +15,76 @@ use design::{LawAnswer, Matrix, Pivots};
 use elementary::NormalLaw;
 use floats::bits::{float_at, little_endian};
 use floats::limits::{MAX_COLUMNS, MAX_ROWS};
-use libc::STDIN_FILENO;
 use outcome::p::normal_p;
 use outcome::{Asked, refusals};
 use print::{print_line, print_matrix, print_refusal};
+use std::io;
+use std::io::Read;
 
 const MOST_CALLS: usize = 1_000_000;
 
 // The numbers of a sheet with a row more than the largest.
 const MOST_NUMBERS: usize = MAX_COLUMNS * (MAX_ROWS + 1);
 
-fn normal_step(law: NormalLaw, asked: Asked) {
+fn normal_step(rt: &impl Print, law: NormalLaw, asked: Asked) -> io::Result<()> {
     let answer = design::check_law(law);
     match answer {
-        LawAnswer::NotFinite => print_refusal(refusals::not_finite(refusals::LAW)),
-        LawAnswer::NotSpread => print_refusal(refusals::not_spread()),
+        LawAnswer::NotFinite => print_refusal(rt, refusals::not_finite(refusals::LAW)),
+        LawAnswer::NotSpread => print_refusal(rt, refusals::not_spread()),
         LawAnswer::Usable(usable) => {
             let alternative = asked.alternative;
-            print_line(b"p", normal_p(usable, asked.statistic, alternative));
+            print_line(rt, "p", normal_p(usable, asked.statistic, alternative))
         }
     }
 }
 
-fn inverse_step(columns: &[f64], size: SheetSize, l: Matrix, asked: Asked)
+fn inverse_step(
+    rt: &impl Print,
+    columns: &[f64],
+    size: SheetSize,
+    l: Matrix,
+    asked: Asked,
+) -> io::Result<()>
     requires { Design size columns.now }
 {
     let k = size.columns;
     let inverse = design::inverse_of_factor(l, k);
     let finite = refusals::of_inverse(inverse, k);
     if finite.number != 0 {
-        print_refusal(finite);
-        return;
+        return print_refusal(rt, finite);
     }
-    print_matrix(&inverse, k);
+    print_matrix(rt, &inverse, k)?;
     if size.rows < design::LEAST_FOR_LAW {
-        print_line(b"p", 1.0);
-        return;
+        return print_line(rt, "p", 1.0);
     }
     let law = design::normal_law(columns, size, inverse);
-    print_line(b"mean", law.mean);
-    print_line(b"variance", law.variance);
-    normal_step(law, asked);
+    print_line(rt, "mean", law.mean)?;
+    print_line(rt, "variance", law.variance)?;
+    normal_step(rt, law, asked)
 }
 
-fn factor_step(columns: &[f64], size: SheetSize, asked: Asked)
+fn factor_step(rt: &impl Print, columns: &[f64], size: SheetSize, asked: Asked) -> io::Result<()>
     requires { Design size columns.now }
 {
     let rows = refusals::of_rows(size);
     if rows.number != 0 {
-        print_refusal(rows);
-        return;
+        return print_refusal(rt, rows);
     }
     let mut l = [[0.0f64; MAX_COLUMNS]; MAX_COLUMNS];
     let pivots = design::factor(columns, size, &mut l);
     match pivots {
-        Pivots::Fails(_) => print_refusal(refusals::of_pivots(pivots)),
-        Pivots::Hold => inverse_step(columns, size, l, asked),
+        Pivots::Fails(_) => print_refusal(rt, refusals::of_pivots(pivots)),
+        Pivots::Hold => inverse_step(rt, columns, size, l, asked),
     }
 }
 
-fn work_out(columns: &[f64], n: usize, k: usize, asked: Asked) {
+fn work_out(rt: &impl Print, columns: &[f64], n: usize, k: usize, asked: Asked) -> io::Result<()> {
     let found = columns::check_columns(columns, n, k);
     let sheet = refusals::of_columns(found);
     if sheet.number != 0 {
-        print_refusal(sheet);
-        return;
+        return print_refusal(rt, sheet);
     }
-    factor_step(columns, refusals::size_in(found), asked);
+    factor_step(rt, columns, refusals::size_in(found), asked)
 }
 
 // The numbers whose patterns stand in `bytes`, at the start of `columns`.
@@ -101,41 +106,47 @@ fn asked_in(head: &[u8; 40]) -> Asked {
 }
 
 // A call of `count` numbers, with room for them; false where the input ends.
-fn call_of(head: &[u8; 40], count: usize, bytes: &mut [u8], columns: &mut [f64]) -> bool
+fn call_of(
+    rt: &(impl Input + Print),
+    head: &[u8; 40],
+    count: usize,
+    bytes: &mut [u8],
+    columns: &mut [f64],
+) -> io::Result<bool>
     requires { (8 * count ≤ length bytes.old) × (count ≤ length columns.old) }
 {
     let size = 8 * count;
-    if io::read_full(STDIN_FILENO, &mut bytes[..size]) != size {
-        return false;
+    if rt.reader().read_exact(&mut bytes[..size]).is_err() {
+        return Ok(false);
     }
     read_numbers(bytes, count, columns);
     let n = little_endian(head, 0, 8) as usize;
     let k = little_endian(head, 8, 8) as usize;
-    work_out(&columns[..count], n, k, asked_in(head));
-    true
+    work_out(rt, &columns[..count], n, k, asked_in(head))?;
+    Ok(true)
 }
 
 // A call whose head was read; false where it has more numbers than any sheet, or the input ends.
-fn one_call(head: &[u8; 40]) -> bool {
+fn one_call(rt: &(impl Input + Print), head: &[u8; 40]) -> io::Result<bool> {
     let count = little_endian(head, 16, 8) as usize;
     if count > MOST_NUMBERS {
-        return false;
+        return Ok(false);
     }
     let mut bytes = [0u8; 8 * MOST_NUMBERS];
     let mut columns = [0.0f64; MOST_NUMBERS];
-    call_of(head, count, &mut bytes, &mut columns)
+    call_of(rt, head, count, &mut bytes, &mut columns)
 }
 
-fn main() {
+fn main(rt: HostRuntime) -> io::Result<()> {
     for i in 0..MOST_CALLS {
         let mut head = [0u8; 40];
-        if io::read_full(STDIN_FILENO, &mut head) != 40 {
-            return;
+        if rt.reader().read_exact(&mut head).is_err() {
+            return Ok(());
         }
-        print::print_call(i);
-        if !one_call(&head) {
-            print::print_cut();
-            return;
+        print::print_call(&rt, i)?;
+        if !one_call(&rt, &head)? {
+            return print::print_cut(&rt);
         }
     }
+    Ok(())
 }

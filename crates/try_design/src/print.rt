@@ -4,46 +4,41 @@ ghost use Rattle.floats.specs.Limits.{max_columns};
 
 use design::Matrix;
 use floats::bits::bits_of;
-use libc::STDOUT_FILENO;
 use outcome::Refusal;
+use std::io;
 
-fn print_bits(x: f64) {
-    io::write_all(STDOUT_FILENO, b" ");
-    io::print_hex(STDOUT_FILENO, bits_of(x), 16);
+fn print_bits(rt: &impl Print, x: f64) -> io::Result<()> {
+    let bits = bits_of(x);
+    print!(rt; " {bits:016x}")
 }
 
-pub fn print_line(name: &[u8], x: f64) {
-    io::write_all(STDOUT_FILENO, name);
-    print_bits(x);
-    io::write_all(STDOUT_FILENO, b"\n");
+pub fn print_line(rt: &impl Print, name: &str, x: f64) -> io::Result<()> {
+    print!(rt; "{name}")?;
+    print_bits(rt, x)?;
+    println!(rt)
 }
 
-pub fn print_matrix(a: &Matrix, k: usize)
+pub fn print_matrix(rt: &impl Print, a: &Matrix, k: usize) -> io::Result<()>
     requires { k ≤ max_columns }
 {
-    io::write_all(STDOUT_FILENO, b"inverse");
+    print!(rt; "inverse")?;
     for i in 0..k {
         for j in 0..k {
-            print_bits(a[i][j]);
+            print_bits(rt, a[i][j])?;
         }
     }
-    io::write_all(STDOUT_FILENO, b"\n");
+    println!(rt)
 }
 
-pub fn print_refusal(why: Refusal) {
-    io::write_all(STDOUT_FILENO, b"refusal ");
-    io::print_decimal(STDOUT_FILENO, why.number as u64);
-    io::write_all(STDOUT_FILENO, b" ");
-    io::print_decimal(STDOUT_FILENO, why.place as u64);
-    io::write_all(STDOUT_FILENO, b"\n");
+pub fn print_refusal(rt: &impl Print, why: Refusal) -> io::Result<()> {
+    let (number, place) = (why.number, why.place);
+    println!(rt; "refusal {number} {place}")
 }
 
-pub fn print_call(i: usize) {
-    io::write_all(STDOUT_FILENO, b"call ");
-    io::print_decimal(STDOUT_FILENO, i as u64);
-    io::write_all(STDOUT_FILENO, b"\n");
+pub fn print_call(rt: &impl Print, i: usize) -> io::Result<()> {
+    println!(rt; "call {i}")
 }
 
-pub fn print_cut() {
-    io::write_all(STDOUT_FILENO, b"the input is cut short\n");
+pub fn print_cut(rt: &impl Print) -> io::Result<()> {
+    println!(rt; "the input is cut short")
 }
