@@ -4,7 +4,7 @@ to 256 rows and 1 to 8 columns, degenerate ones among them.
 
 Usage: compare.py --seed SEED --count COUNT [--program COMMAND] [--show N]
 
-  --program   the command that runs try_eigen; where not given, target/bin/try_eigen under the kit's loader
+  --program   the command that runs try_eigen; where not given, out/try_eigen, which `rt run` here makes
   --show      disagreements to print, 5 where not given
 
 Designs come by hundreds, each from (seed, its number) alone. oracle/build port first. Prints the counts by kind; the last line is
@@ -12,8 +12,6 @@ Designs come by hundreds, each from (seed, its number) alone. oracle/build port 
 """
 import argparse
 import collections
-import importlib.machinery
-import importlib.util
 import os
 import random
 import shlex
@@ -142,17 +140,6 @@ def design_of(seed, number):
     return kind.__name__, columns, inverse
 
 
-def kit_words():
-    """What runs a program of the gate, as oracle/at-scale has it."""
-    loader = importlib.machinery.SourceFileLoader('at_scale', os.path.join(TOP, 'oracle', 'at-scale'))
-    module = importlib.util.module_from_spec(importlib.util.spec_from_loader('at_scale', loader))
-    loader.exec_module(module)
-    try:
-        return module.kit_words()
-    except module.Failed as why:
-        raise SystemExit('compare.py: %s' % why)
-
-
 def ask(words, data):
     try:
         done = subprocess.run(words, input=data, capture_output=True)
@@ -172,7 +159,7 @@ def main():
     flags.add_argument('--program')
     flags.add_argument('--show', type=int, default=5)
     given = flags.parse_args()
-    words = shlex.split(given.program) if given.program else kit_words() + [os.path.join(TOP, 'target', 'bin', 'try_eigen')]
+    words = shlex.split(given.program) if given.program else [os.path.join(HERE, 'out', 'try_eigen')]
     by_kind, by_refusal, by_rows = collections.Counter(), collections.Counter(), collections.Counter()
     eigenvalues = sweeps = stuck = disagreements = rows = 0
     for first in range(0, given.count, HUNDRED):

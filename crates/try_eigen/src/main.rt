@@ -4,6 +4,8 @@
 // patterns of 64 numbers, the inverse row by row in its first k rows and columns, and of the columns' k n numbers. The line: index, refusal
 // and place; where there is none, how many eigenvalues are kept, the sweeps, 1 where an index of the QL step still had a coupling left after its
 // turn and else 0, and the eigenvalues' patterns. The room is not cleared between designs.
+#![tactic(auto)]
+
 mod print;
 
 ghost use Rattle.std.specs.Prelude.{◌≡◌, ◌+◌, ◌*◌, ◌≤◌, ◌<◌, length};
@@ -15,9 +17,10 @@ use design::Matrix;
 use eigen::Spectrum;
 use floats::bits::{float_at, little_endian};
 use floats::limits::{MAX_COLUMNS, MAX_ROWS};
-use libc::STDIN_FILENO;
 use outcome::refusals::{EIGENVALUES, PRODUCT, not_finite, of_inverse, of_pivots};
 use print::{print_cut, print_kept, print_refusal};
+use std::io;
+use std::io::Read;
 
 const MOST_DESIGNS: usize = 1_000_000;
 
@@ -28,20 +31,33 @@ const MOST_NUMBERS: usize = MAX_COLUMNS * MAX_ROWS;
 
 const MATRIX_ROOM: usize = MAX_ROWS * (MAX_ROWS + 1);
 
-fn spectrum_of(i: usize, columns: &[f64], size: SheetSize, inverse: Matrix, room: &mut [f64])
+fn spectrum_of(
+    rt: &impl Print,
+    i: usize,
+    columns: &[f64],
+    size: SheetSize,
+    inverse: Matrix,
+    room: &mut [f64],
+) -> io::Result<()>
     requires { (Design size columns.now) × (size.columns ≤ size.rows) × (matrix_room size.rows ≤ length room.old) }
 {
     let mut kept = [0.0f64; MAX_ROWS];
     let spectrum = eigen::ma_eigenvalues(columns, size, inverse, room, &mut kept);
     match spectrum {
-        Spectrum::MatrixNotFinite => print_refusal(i, not_finite(PRODUCT)),
-        Spectrum::NumberNotFinite => print_refusal(i, not_finite(EIGENVALUES)),
-        Spectrum::Kept(numbers) => print_kept(i, numbers, &kept),
+        Spectrum::MatrixNotFinite => print_refusal(rt, i, not_finite(PRODUCT)),
+        Spectrum::NumberNotFinite => print_refusal(rt, i, not_finite(EIGENVALUES)),
+        Spectrum::Kept(numbers) => print_kept(rt, i, numbers, &kept),
     }
 }
 
 // The spectrum by the inverse of X'X, or the refusal that comes before it.
-fn spectrum_by_columns(i: usize, columns: &[f64], size: SheetSize, room: &mut [f64])
+fn spectrum_by_columns(
+    rt: &impl Print,
+    i: usize,
+    columns: &[f64],
+    size: SheetSize,
+    room: &mut [f64],
+) -> io::Result<()>
     requires { (Design size columns.now) × (size.columns ≤ size.rows) × (matrix_room size.rows ≤ length room.old) }
 {
     let k = size.columns;
@@ -49,16 +65,14 @@ fn spectrum_by_columns(i: usize, columns: &[f64], size: SheetSize, room: &mut [f
     let pivots = design::factor(columns, size, &mut l);
     let failed = of_pivots(pivots);
     if failed.number != 0 {
-        print_refusal(i, failed);
-        return;
+        return print_refusal(rt, i, failed);
     }
     let inverse = design::inverse_of_factor(l, k);
     let finite = of_inverse(inverse, k);
     if finite.number != 0 {
-        print_refusal(i, finite);
-        return;
+        return print_refusal(rt, i, finite);
     }
-    spectrum_of(i, columns, size, inverse, room);
+    spectrum_of(rt, i, columns, size, inverse, room)
 }
 
 // Row i of the inverse that is given.
@@ -93,60 +107,66 @@ fn read_columns(bytes: &[u8], count: usize, run: &mut [f64])
 
 // A design of a size that fits, with room for its numbers; false where the input ends.
 fn design_of(
+    rt: &(impl Input + Print),
     i: usize,
     head: &[u8; 24],
     size: SheetSize,
     bytes: &mut [u8],
     run: &mut [f64],
     room: &mut [f64],
-) -> bool
+) -> io::Result<bool>
     requires { (size.rows ≤ max_rows) × (size.columns ≤ max_columns) × (size.columns ≤ size.rows) × (8 * (max_columns * max_columns) + 8 * (size.columns * size.rows) ≤ length bytes.old) × (size.columns * size.rows ≤ length run.old) × (matrix_room size.rows ≤ length room.old) }
 {
     let count = size.columns * size.rows;
     let all = INVERSE_BYTES + 8 * count;
-    if io::read_full(STDIN_FILENO, &mut bytes[..all]) != all {
-        return false;
+    if rt.reader().read_exact(&mut bytes[..all]).is_err() {
+        return Ok(false);
     }
     read_columns(bytes, count, run);
     if little_endian(head, 16, 8) == 0 {
-        spectrum_by_columns(i, &run[..count], size, room);
+        spectrum_by_columns(rt, i, &run[..count], size, room)?;
     } else {
-        spectrum_of(i, &run[..count], size, inverse_in(bytes), room);
+        spectrum_of(rt, i, &run[..count], size, inverse_in(bytes), room)?;
     }
-    true
+    Ok(true)
 }
 
 // A design whose head was read; false where it is larger than any sheet's, has more columns than rows, or the input ends.
-fn one_design(i: usize, head: &[u8; 24], room: &mut [f64]) -> bool
+fn one_design(
+    rt: &(impl Input + Print),
+    i: usize,
+    head: &[u8; 24],
+    room: &mut [f64],
+) -> io::Result<bool>
     requires { matrix_room max_rows ≤ length room.old }
 {
     let n = little_endian(head, 0, 8) as usize;
     let k = little_endian(head, 8, 8) as usize;
     let answer = SheetSize::new(n, k);
     let SizeAnswer::Fits(size) = answer else {
-        return false;
+        return Ok(false);
     };
     if size.columns > size.rows {
-        return false;
+        return Ok(false);
     }
     let mut bytes = [0u8; INVERSE_BYTES + 8 * MOST_NUMBERS];
     let mut run = [0.0f64; MOST_NUMBERS];
-    design_of(i, head, size, &mut bytes, &mut run, room)
+    design_of(rt, i, head, size, &mut bytes, &mut run, room)
 }
 
-fn designs(room: &mut [f64])
+fn designs(rt: &(impl Input + Print), room: &mut [f64]) -> io::Result<()>
     requires { matrix_room max_rows ≤ length room.old }
 {
     for i in 0..MOST_DESIGNS {
         let mut head = [0u8; 24];
-        if io::read_full(STDIN_FILENO, &mut head) != 24 {
-            return;
+        if rt.reader().read_exact(&mut head).is_err() {
+            return Ok(());
         }
-        if !one_design(i, &head, room) {
-            print_cut();
-            return;
+        if !one_design(rt, i, &head, room)? {
+            return print_cut(rt);
         }
     }
+    Ok(())
 }
 
 fn matrix_room() -> [f64; MATRIX_ROOM]
@@ -155,7 +175,7 @@ fn matrix_room() -> [f64; MATRIX_ROOM]
     [0.0; MATRIX_ROOM]
 }
 
-fn main() {
+fn main(rt: HostRuntime) -> io::Result<()> {
     let mut room = matrix_room();
-    designs(&mut room);
+    designs(&rt, &mut room)
 }

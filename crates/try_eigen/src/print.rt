@@ -1,45 +1,35 @@
 // The line of a design.
 use eigen::Numbers;
 use floats::bits::bits_of;
-use libc::STDOUT_FILENO;
 use outcome::Refusal;
-
-fn print_word(n: u64) {
-    io::write_all(STDOUT_FILENO, b" ");
-    io::print_decimal(STDOUT_FILENO, n);
-}
+use std::io;
 
 fn mark(b: bool) -> u64 {
     if b { 1 } else { 0 }
 }
 
-fn print_pattern(x: f64) {
-    io::write_all(STDOUT_FILENO, b" ");
-    io::print_hex(STDOUT_FILENO, bits_of(x), 16);
+fn print_pattern(rt: &impl Print, x: f64) -> io::Result<()> {
+    let bits = bits_of(x);
+    print!(rt; " {bits:016x}")
 }
 
-pub fn print_refusal(i: usize, why: Refusal) {
-    io::print_decimal(STDOUT_FILENO, i as u64);
-    print_word(why.number as u64);
-    print_word(why.place as u64);
-    io::write_all(STDOUT_FILENO, b"\n");
+pub fn print_refusal(rt: &impl Print, i: usize, why: Refusal) -> io::Result<()> {
+    let (number, place) = (why.number, why.place);
+    println!(rt; "{i} {number} {place}")
 }
 
-pub fn print_kept(i: usize, numbers: Numbers, kept: &[f64]) {
+pub fn print_kept(rt: &impl Print, i: usize, numbers: Numbers, kept: &[f64]) -> io::Result<()> {
     let work = numbers.work;
-    io::print_decimal(STDOUT_FILENO, i as u64);
-    io::write_all(STDOUT_FILENO, b" 0 0");
-    print_word(numbers.count as u64);
-    print_word(work.sweeps as u64);
-    print_word(mark(numbers.stuck));
+    let (count, sweeps, stuck) = (numbers.count, work.sweeps, mark(numbers.stuck));
+    print!(rt; "{i} 0 0 {count} {sweeps} {stuck}")?;
     for t in 0..kept.len() {
-        if t < numbers.count {
-            print_pattern(kept[t]);
+        if t < count {
+            print_pattern(rt, kept[t])?;
         }
     }
-    io::write_all(STDOUT_FILENO, b"\n");
+    println!(rt)
 }
 
-pub fn print_cut() {
-    io::write_all(STDOUT_FILENO, b"the input is cut short\n");
+pub fn print_cut(rt: &impl Print) -> io::Result<()> {
+    println!(rt; "the input is cut short")
 }
