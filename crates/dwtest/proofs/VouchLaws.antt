@@ -66,7 +66,7 @@ module _ (e : List Float) where
     by-spectrum : (s : Spectrum) (kept : List Float) → Vouched (finish found asked (by_spectrum s kept asked)) e
     by-spectrum MatrixNotFinite kept = tt
     by-spectrum NumberNotFinite kept = tt
-    by-spectrum (Kept s) kept = by-imhof (imhof_of kept asked.statistic s.work).answer s
+    by-spectrum (Kept s) kept = by-imhof (imhof_of kept asked.statistic).answer s
 
   module _ (wanted : ℕ → ℕ) (x : List Float) (n k : ℕ) (asked : Asked) (choice : Choice) (matrix parts : ℕ) (sure : Sure asked.statistic e) where
     answer-vouched : (l : Layout) → Vouched (answer_of wanted n l asked choice matrix parts) e

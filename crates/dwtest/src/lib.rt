@@ -1,6 +1,8 @@
 // The Durbin-Watson test for first-order autocorrelation of regression residuals, as R's `lmtest::dwtest`: the order of the
 // checks, what the columns decide, what the statistic decides from it, and the two lent rooms. The steps stand in the crates
 // below; residuals meet columns only here.
+#![tactic(auto)]
+
 ghost use Rattle.std.specs.Prelude.{◌≡◌, true, ◌++◌, ◌≤◌, ◌<◌, length, drop, replicate};
 ghost use Rattle.floats.specs.Words.{plus_zero};
 ghost use Rattle.floats.specs.Limits.{max_rows};
@@ -26,7 +28,7 @@ use outcome::{
 use verdict::Said;
 
 // Which way a sheet goes once its columns are checked: too few rows to work anything out, rooms that do not suffice, exact or normal.
-#[derive(Drop)]
+#[derive(Clone, Copy)]
 enum Way {
     Few,
     NoRoom(Refusal),

@@ -17,7 +17,7 @@ use outcome::{
 };
 
 // What is said before any law is worked out: an answer, or that the law is due, with what the exact way leaves to it.
-#[derive(Drop)]
+#[derive(Clone, Copy)]
 pub enum Said {
     Answered(Outcome),
     LawDue(Leaving),
