@@ -3,9 +3,9 @@
 -- accepted and its sweeps and its integral ended; and it fell back exactly when no weight was left and nothing is refused. Assumes nothing.
 use mathlib.Core.Path.{◌≡◌, refl, sym, ap, ◌∙◌, subst}
 use mathlib.Core.Bool.{Bool, true, false, not, ◌&&◌, ◌||◌, cond, true≢false}
-use Prim.Native.Nat.{ℕ, ◌*◌, ◌≤◌, ◌<◌}
+use Prim.Native.Nat.{ℕ, ◌≤◌, ◌<◌}
 use mathlib.Core.List.{List, [], ◌∷◌}
-use lib.Dec.{T, ltb, leb}
+use lib.Dec.{T, ltb}
 use lib.ListN.{length}
 use lib.Ieee.{Float, nan, inf, fin, is_nan, le, lt, eq, of_bits}
 use lib.Ieee.Bits.{is_true}
@@ -13,18 +13,16 @@ use lib.Ieee.Scale.{finite}
 use Rattle.floats.specs.Words.{plus_zero, one}
 use Rattle.floats.specs.Held.{held?}
 use Rattle.floats.specs.Count.{no_work}
-use Rattle.floats.specs.declared.search.Found.{Found}
-use Rattle.floats.specs.declared.search.Found.TheVariants.{At, Nothing}
 use Rattle.elementary.specs.Bounds.{Within}
 use Rattle.elementary.specs.declared.NormalLaw.{NormalLaw}
-use Rattle.autocorrelation.specs.Statistic.{durbin_watson, durbin_watson_answer, value}
+use Rattle.autocorrelation.specs.Statistic.{durbin_watson, durbin_watson_answer}
 use Rattle.autocorrelation.specs.Bound.{exact_squares, exact_differences, Accurate, numbers_sized?, differences_sized?, Sure}
 use Rattle.autocorrelation.specs.declared.Statistic.{Statistic}
 use Rattle.autocorrelation.specs.declared.Statistic.TheVariants as statistic
-use Rattle.autocorrelation.proofs.Theorems.{sure}
+use Rattle.autocorrelation.proofs.Theorems.{sure, answer-accurate, answer-finite}
 use Rattle.autocorrelation.proofs.Rules.{accepted}
 use Rattle.columns.specs.Sheet.{columns_of}
-use Rattle.design.specs.Matrix.{Matrix, finite_matrix}
+use Rattle.design.specs.Matrix.{Matrix}
 use Rattle.design.specs.Factor.{pivots_of}
 use Rattle.design.specs.Inverse.{inverse_of}
 use Rattle.design.specs.Law.{law_from, law_answer}
@@ -67,11 +65,18 @@ use Rattle.outcome.specs.declared.Outcome.{Outcome}
 use Rattle.outcome.specs.declared.Choice.{Choice}
 use Rattle.outcome.specs.declared.Leaving.{Leaving}
 use Rattle.dwtest.proofs.TestLaws.{pivot-fails, inverse-refused, too_few, by-normal, no_room, by-exact, columns-refused, statistic-refused, rows-refused, runs-pass}
-use Rattle.outcome.proofs.PassLaws.{sized_of, pivots-hold}
+use Rattle.outcome.proofs.PassLaws.{sized_of}
 use Rattle.theorems.specs.Document.{empty, first_given, rows, both_signs, exact_due, fell_back, weights_left, coupling_was_left, error_sum, settled_due}
+use Rattle.theorems.specs.Figures.{sweeps_in}
+use Rattle.theorems.proofs.Swept.{kept-swept}
 use Rattle.theorems.proofs.Order.{value-is, none_left, weight-left, valued, as-document}
 use Rattle.theorems.proofs.Unit.{exact-p-within}
 use Rattle.theorems.proofs.One.{Promised}
+
+-- no weight is of both signs where none is left
+pub none-of-both : (ws : List Float) → empty ws ≡ true → both_signs (signs_of ws) ≡ false
+none-of-both [] h = refl
+none-of-both (w ∷ ws) h = absurd (true≢false (sym h))
 
 module _ (e x : List Float) (k : ℕ) (a : Alternative) (choice : Choice) (matrix_room part_room : ℕ) where
   abbrev n : ℕ
@@ -119,20 +124,34 @@ module _ (e x : List Float) (k : ℕ) (a : Alternative) (choice : Choice) (matri
     pub exact : (s : Numbers) (q : Estimate) → due ≡ true → back ≡ false → s.stuck ≡ left? → (imhof_of kept d).answer ≡ Value q
         → P (accepted_of asked (exact_p q.probability a) by_imhof_path (worked_out s q) no_law)
 
+  -- the work that the exact path left to them: the sweeps alone
+  abbrev pub WorkLeft : Leaving → Type 0
+  WorkLeft left = (left.work.sweeps ≡ cond due (sweeps_in (spectrum_of x inverse n k)) 0) × (left.work.bisections ≡ 0) × (left.work.evaluations ≡ 0)
+
+  -- the same, where a property may rest on the work too, and path 2 on the spectrum as it is
+  pub record ShownWorked (P : Outcome → Type 0) : Type 0 where
+    pub refused : (r : Refusal) → passes r ≡ false → P (refused_of r)
+    pub short : ltb n 3 ≡ true → P (accepted_of asked one few_rows direct no_law)
+    pub early : (left : Leaving) → LeftBy left → WorkLeft left → P (accepted_of asked one few_for_law left no_law)
+    pub normal : (left : Leaving) (law : NormalLaw) → LeftBy left → WorkLeft left → law_answer (law_from x n k inverse) ≡ answer.Usable law
+        → P (accepted_of asked (normal_p law d a) by_law_path left law)
+    pub exact : (s : Numbers) (q : Estimate) → due ≡ true → back ≡ false → spectrum_of x inverse n k ≡ Kept s → (imhof_of kept d).answer ≡ Value q
+        → P (accepted_of asked (exact_p q.probability a) by_imhof_path (worked_out s q) no_law)
+
   -- the eigenvalues' mark is whether a coupling was left
   stuck-is : (s : Numbers) → spectrum_of x inverse n k ≡ Kept s → s.stuck ≡ left?
   unfolding bands_stuck
   stuck-is s g = (kept-told x inverse n k s g).1
 
-  module _ (P : Outcome → Type 0) (shown : Shown P) where
-    normal-shown : (left : Leaving) → LeftBy left → P (normal_path (layout_from x n k inverse) asked left)
+  module _ (P : Outcome → Type 0) (shown : ShownWorked P) where
+    normal-shown : (left : Leaving) → LeftBy left → WorkLeft left → P (normal_path (layout_from x n k inverse) asked left)
     unfolding normal_path
-    normal-shown left f = go (ltb n 5) (law_answer (law_from x n k inverse)) refl
+    normal-shown left f w = go (ltb n 5) (law_answer (law_from x n k inverse)) refl
       where
         go : (b : Bool) (l : LawAnswer) → law_answer (law_from x n k inverse) ≡ l
             → P (finish l asked (cond b (Answered (accepted_of asked one few_for_law left no_law)) (LawDue left)))
-        go true l h = shown.early left f
-        go false (answer.Usable law) h = shown.normal left law f h
+        go true l h = shown.early left f w
+        go false (answer.Usable law) h = shown.normal left law f w h
         go false answer.NotFinite h = shown.refused (refusal 13 5) refl
         go false answer.NotSpread h = shown.refused (refusal 14 0) refl
 
@@ -145,9 +164,9 @@ module _ (e x : List Float) (k : ℕ) (a : Alternative) (choice : Choice) (matri
         go NumberNotFinite g q h = shown.refused (refusal 13 3) refl
         go (Kept s) g NoWeight h =
             rw h (unfold normal_path in normal-shown (fallen_back s)
-            (rw (is-due, none_left kept d h, stuck-is s g) (refl, refl, refl)))
+            (rw (is-due, none_left kept d h, stuck-is s g) (refl, refl, refl)) (rw (is-due, g) (refl, (kept-swept x inverse n k s g).0, (kept-swept x inverse n k s g).1)))
         go (Kept s) g NotFinite h = rw h (shown.refused (refusal 13 4) refl)
-        go (Kept s) g (Value q) h = rw h (shown.exact s q is-due (rw (is-due, weight-left kept d (Value q) h valued) refl) (stuck-is s g) h)
+        go (Kept s) g (Value q) h = rw h (shown.exact s q is-due (rw (is-due, weight-left kept d (Value q) h valued) refl) g h)
 
     decided-shown : P (design_of room_of x n k asked choice matrix_room part_room)
     decided-shown =
@@ -161,15 +180,15 @@ module _ (e x : List Float) (k : ℕ) (a : Alternative) (choice : Choice) (matri
             subst P (sym (inverse-refused room_of x n k asked choice matrix_room part_room inverse h refl g).0) (shown.refused (inverse_refusal k inverse) g)
         go Hold h true g true j w l r m = subst P (sym (too_few room_of x n k asked choice matrix_room part_room inverse h refl g j).0) (shown.short j)
         go Hold h true g false j false l r m =
-            subst P (sym (by-normal room_of x n k asked choice matrix_room part_room inverse h refl g j l).0) (normal-shown direct (rw (j, l) (refl, refl, refl)))
+            subst P (sym (by-normal room_of x n k asked choice matrix_room part_room inverse h refl g j l).0) (normal-shown direct (rw (j, l) (refl, refl, refl)) (rw (j, l) (refl, refl, refl)))
         go Hold h true g false j true l false m =
             subst P (sym (no_room room_of x n k asked choice matrix_room part_room inverse h refl g j l m).0) (shown.refused (room_refusal (room_of n) matrix_room part_room) m)
         go Hold h true g false j true l true m =
             subst P (sym (by-exact room_of x n k asked choice matrix_room part_room inverse h refl g j l m).0) (exact-shown (rw (j, l) refl))
 
-    -- EVERY OUTCOME
-    pub every : P outcome
-    every = go (passes (columns_refusal (columns_of x n k))) refl (passes (statistic_refusal (durbin_watson_answer e))) refl (passes (rows_refusal n k)) refl
+    -- every outcome, with its work
+    pub every-worked : P outcome
+    every-worked = go (passes (columns_refusal (columns_of x n k))) refl (passes (statistic_refusal (durbin_watson_answer e))) refl (passes (rows_refusal n k)) refl
       where
         go : (c : Bool) → passes (columns_refusal (columns_of x n k)) ≡ c → (s : Bool) → passes (statistic_refusal (durbin_watson_answer e)) ≡ s → (t : Bool) → passes (rows_refusal n k) ≡ t → P outcome
         go false c s f t g = subst P (sym (columns-refused room_of e x k a choice matrix_room part_room (columns_of x n k) refl c).0) (shown.refused (columns_refusal (columns_of x n k)) c)
@@ -180,6 +199,17 @@ module _ (e x : List Float) (k : ℕ) (a : Alternative) (choice : Choice) (matri
         go true c true f true g =
             subst P (sym (runs-pass room_of e x k a choice matrix_room part_room (columns_of x n k) refl c (durbin_watson_answer e) refl f g).0)
             (subst (λ v. P (design_of room_of x n k (asking v a n) choice matrix_room part_room)) (sym (value-is e x k a choice matrix_room part_room f)) decided-shown)
+
+  -- EVERY OUTCOME
+  module _ (P : Outcome → Type 0) (shown : Shown P) where
+    pub every : P outcome
+    every = every-worked P (record {
+      refused = shown.refused;
+      short = shown.short;
+      early = λ left f w. shown.early left f;
+      normal = λ left law f w l. shown.normal left law f l;
+      exact = λ s q u b g v. shown.exact s q u b (stuck-is s g) v;
+    })
 
   -- ---- the statistic
 
@@ -209,6 +239,14 @@ module _ (e x : List Float) (k : ℕ) (a : Alternative) (choice : Choice) (matri
     exact = λ s v u h t w q. refl;
   })
 
+  -- DEMAND 3: where the residuals and their exact neighbour differences are each 0 or from 2^-250 to 2^250 in size, the reported statistic is off the exact quotient by
+  -- at most (n + 2) / 2^52 of it
+  pub statistic-accurate : passes outcome.refusal ≡ true → T (held? e) → T (numbers_sized? 250 e) → T (differences_sized? 250 e)
+      → Accurate n outcome.statistic (exact_differences e) (exact_squares e)
+  statistic-accurate q h s t =
+      let c = checked q in
+      subst (λ v. Accurate n v (exact_differences e) (exact_squares e)) (sym (statistic-is q)) (answer-accurate e d c.1 c.0 h s t)
+
   -- where binary64 holds the run, the result is vouched for
   pub vouched : T (held? e) → Vouched outcome e
   vouched held = go (passes outcome.refusal) refl
@@ -237,6 +275,10 @@ module _ (e x : List Float) (k : ℕ) (a : Alternative) (choice : Choice) (matri
       number (inf b) h = unfold is_nan in refl
       number (fin b m i) h = unfold is_nan in refl
 
+  -- EVERY ACCEPTED P is a number from 0 to 1
+  pub p-within : passes outcome.refusal ≡ true → T (held? e) → Within plus_zero one outcome.p
+  p-within q held = finite-p-within (answer-finite e d (checked q).1 held).0 q
+
   -- ---- settled, and the fallback
 
   abbrev weights : List Float
@@ -250,11 +292,6 @@ module _ (e x : List Float) (k : ℕ) (a : Alternative) (choice : Choice) (matri
 
   abbrev mark : Bool
   mark = settled_due e x k choice matrix_room part_room
-
-  -- no weight is of both signs where none is left
-  none-of-both : (ws : List Float) → empty ws ≡ true → both_signs (signs_of ws) ≡ false
-  none-of-both [] h = refl
-  none-of-both (w ∷ ws) h = absurd (true≢false (sym h))
 
   -- paths 3 and 4
   left-mark : (left : Leaving) → LeftBy left → left.settled ≡ mark
@@ -321,21 +358,21 @@ module _ (e x : List Float) (k : ℕ) (a : Alternative) (choice : Choice) (matri
 
 -- ---- of every accepted result that the promise of `durbin_watson_test` allows
 module _ (e x : List Float) (k : ℕ) (a : Alternative) (choice : Choice) (matrix parts : List Float) (r : Outcome) (matrix_after parts_after : List Float) (promised : Promised e x k a choice matrix parts r matrix_after parts_after)
-    (accepts : passes r.refusal ≡ true) where
+    (vouches : Vouched r e) (accepts : passes r.refusal ≡ true) where
   known : Sure r.statistic e
-  known = subst (λ (b : Bool). SureIf b r.statistic e) accepts promised.3
+  known = subst (λ (b : Bool). SureIf b r.statistic e) accepts vouches
 
   passed : passes (test_of e x k a choice (length matrix) (length parts)).refusal ≡ true
   passed = subst (λ (o : Outcome). passes o.refusal ≡ true) promised.0 accepts
 
   -- DEMAND 3: where the residuals and their exact neighbour differences are each 0 or from 2^-250 to 2^250 in size, the reported statistic is off the exact quotient by
   -- at most (n + 2) / 2^52 of it
-  pub statistic-accurate : T (numbers_sized? 250 e) → T (differences_sized? 250 e) → Accurate (length e) r.statistic (exact_differences e) (exact_squares e)
-  statistic-accurate = known.accurate (checked e x k a choice (length matrix) (length parts) passed).0
+  pub promised-accurate : T (numbers_sized? 250 e) → T (differences_sized? 250 e) → Accurate (length e) r.statistic (exact_differences e) (exact_squares e)
+  promised-accurate = known.accurate (checked e x k a choice (length matrix) (length parts) passed).0
 
   -- EVERY ACCEPTED P is a number from 0 to 1
-  pub p-within : Within plus_zero one r.p
-  p-within =
+  pub promised-p-within : Within plus_zero one r.p
+  promised-p-within =
       subst (λ (o : Outcome). Within plus_zero one o.p) (sym promised.0)
       (finite-p-within e x k a choice (length matrix) (length parts)
       (subst (λ (v : Float). T (finite v)) (ap (λ (o : Outcome). o.statistic) promised.0 ∙ statistic-is e x k a choice (length matrix) (length parts) passed) known.is_finite) passed)

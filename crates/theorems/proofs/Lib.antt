@@ -1,5 +1,6 @@
 pub mod Order
 pub mod Unit
+pub mod Swept
 pub mod Accepted
 pub mod Worked
 pub mod One
@@ -12,4 +13,5 @@ pub mod Sizes
 pub mod Limits
 pub mod Stroke
 pub mod Figures
+pub mod Work
 pub mod Faces

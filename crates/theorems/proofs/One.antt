@@ -23,7 +23,6 @@ use Rattle.imhof.specs.Imhof.{imhof_of}
 use Rattle.imhof.specs.declared.Exact.{Exact}
 use Rattle.outcome.specs.Rooms.{room_of, part_room, cleared_of}
 use Rattle.dwtest.specs.Test.{test_of, touched}
-use Rattle.dwtest.specs.Vouched.{Vouched}
 use Rattle.outcome.specs.declared.Outcome.{Outcome}
 use Rattle.outcome.specs.declared.Choice.{Choice}
 
@@ -31,14 +30,13 @@ use Rattle.outcome.specs.declared.Choice.{Choice}
 both : {A : Type 0} {r s t : A} → r ≡ t → s ≡ t → r ≡ s
 both p q = p ∙ sym q
 
--- ---- `durbin_watson_test`: the result, both rooms at the end, and what vouches for the statistic
+-- ---- `durbin_watson_test`: the result, and both rooms at the end
 module _ (e x : List Float) (k : ℕ) (a : Alternative) (choice : Choice) (matrix parts : List Float) where
   abbrev pub Promised : Outcome → List Float → List Float → Type 0
   Promised r matrix_after parts_after =
       (r ≡ test_of e x k a choice (length matrix) (length parts)) ×
       (matrix_after ≡ cleared_of (touched e x k choice (length matrix) (length parts)) (room_of (length e)) matrix) ×
-      (parts_after ≡ cleared_of (touched e x k choice (length matrix) (length parts)) part_room parts) ×
-      Vouched r e
+      (parts_after ≡ cleared_of (touched e x k choice (length matrix) (length parts)) part_room parts)
 
   pub one-outcome : (r s : Outcome) (m m' p p' : List Float) → Promised r m p → Promised s m' p' → (r ≡ s) × (m ≡ m') × (p ≡ p')
   one-outcome r s m m' p p' f g = (both f.0 g.0, both f.1 g.1, both f.2 g.2)

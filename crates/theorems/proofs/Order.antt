@@ -2,8 +2,8 @@
 -- table of specs/Document.antt gives. One idea: the test's cases and the table's rows are split side by side, in the order tried. Assumes nothing.
 use mathlib.Core.Path.{◌≡◌, refl, sym, ap, ◌∙◌, subst}
 use mathlib.Core.Logic.{◌⊎◌, inl, inr}
-use mathlib.Core.Bool.{Bool, true, false, not, ◌&&◌, ◌||◌, cond, true≢false}
-use Prim.Native.Nat.{ℕ, ◌*◌, ◌<◌}
+use mathlib.Core.Bool.{Bool, true, false, not, ◌&&◌, cond, true≢false}
+use Prim.Native.Nat.{ℕ, ◌*◌}
 use native.Mathlib.Omega.{arith}
 use mathlib.Core.List.{List, [], ◌∷◌}
 use lib.Dec.{T, ltb, leb, eqb, ltb→lt}
@@ -11,11 +11,10 @@ use borrow.Author.Tests.{lt-ltb}
 use lib.ListN.{length}
 use lib.Ieee.{Float, eq, lt}
 use lib.Ieee.Scale.{finite}
-use Rattle.floats.specs.Words.{plus_zero, one}
+use Rattle.floats.specs.Words.{plus_zero}
 use Rattle.floats.specs.Search.{first_where, first_bad}
 use Rattle.floats.specs.declared.search.Found.{Found}
 use Rattle.floats.specs.declared.search.Found.TheVariants.{At, Nothing}
-use Rattle.floats.specs.declared.tally.Tally.{Tally}
 use Rattle.autocorrelation.specs.declared.Statistic.{Statistic}
 use Rattle.autocorrelation.specs.declared.Statistic.TheVariants as statistic
 use Rattle.autocorrelation.proofs.Rules.{accepted}
@@ -25,17 +24,17 @@ use Rattle.columns.specs.Sheet.{columns_of}
 use Rattle.design.specs.Matrix.{Matrix, finite_matrix}
 use Rattle.design.specs.Factor.{pivots_of, fails_at}
 use Rattle.design.specs.Inverse.{inverse_of}
-use Rattle.design.specs.Law.{law_from, law_of, law_answer}
+use Rattle.design.specs.Law.{law_from, law_answer}
 use Rattle.outcome.specs.declared.Alternative.{Alternative}
 use Rattle.projection.specs.Projection.{mam_of}
-use Rattle.eigen.specs.Spectrum.{numbers_of, spectrum_of, kept_numbers, delivered_of, delivered_numbers}
+use Rattle.eigen.specs.Spectrum.{numbers_of, spectrum_of, kept_numbers, delivered_of}
 use Rattle.weights.specs.Weights.{weights_of}
 use Rattle.imhof.specs.Imhof.{imhof_of}
 use Rattle.imhof.specs.declared.Estimate.{Estimate}
 use Rattle.imhof.specs.declared.Exact.{Exact}
 use Rattle.imhof.specs.declared.Exact.TheVariants.{NoWeight, NotFinite, Value}
 use Rattle.imhof.proofs.Probability.{no-weight}
-use Rattle.outcome.specs.Refusals.{passed, refusal, passes, first_of, columns_refusal, statistic_refusal, room_refusal, law_refusal}
+use Rattle.outcome.specs.Refusals.{passed, refusal, passes, first_of, columns_refusal, statistic_refusal}
 use Rattle.outcome.specs.Result.{wants_exact, direct}
 use Rattle.dwtest.specs.Verdict.{normal_path, exact_path, by_law}
 use Rattle.dwtest.proofs.TestLaws.{columns-refused, statistic-refused, rows-refused, runs-pass}
@@ -43,9 +42,8 @@ use Rattle.outcome.specs.Rooms.{room_of}
 use Rattle.dwtest.specs.Layout.{layout_from, layout_of}
 use Rattle.dwtest.specs.Test.{asking, answer_of, design_of, test_of}
 use Rattle.outcome.specs.declared.Asked.{Asked}
-use Rattle.theorems.specs.Document.{Row, row, first_given, found, found_at, empty, broken, last_rows, rows, exact_due, law_due, Given}
+use Rattle.theorems.specs.Document.{Row, row, first_given, found, found_at, empty, broken, last_rows, rows, Given}
 use Rattle.outcome.specs.declared.Refusal.{Refusal}
-use Rattle.outcome.specs.declared.Outcome.{Outcome}
 use Rattle.outcome.specs.declared.Choice.{Choice}
 use Rattle.outcome.specs.declared.Leaving.{Leaving}
 

@@ -249,7 +249,7 @@ scaled-held j e =
 pub unit-allowed : (j : ℤ) (e : List Float) → nat_abs j ≤ power_limit → T (held? e) → T (ruled e) → T (ruled (scaled j e))
     → (x : List Float) (k : ℕ) (a : Alternative) (c : Choice) (matrix parts : List Float) (r : Outcome) (m p : List Float)
     → Promised e x k a c matrix parts r m p → Promised (scaled j e) x k a c matrix parts r m p
-unit-allowed j e near held p q = allowed e (scaled j e) (unit j e near held p q) (λ h. scaled-held j e)
+unit-allowed j e near held p q = allowed e (scaled j e) (unit j e near held p q)
 
 -- ---- where every finite residual is 0
 pub zero-unit : ZeroUnitLaw

@@ -60,13 +60,18 @@ module _ (e e' : List Float) (long : length e' ≡ length e) where
   unfolding test_with touched_with
   alike told x k a c matrix parts = rw (long, told) (refl, refl, refl)
 
--- so whatever the promise of `durbin_watson_test` allows for a run, it allows for one that is alike and as well held
-pub allowed : (e e' : List Float) → Alike e e' → (T (held? e) → T (held? e')) → (x : List Float) (k : ℕ) (a : Alternative) (c : Choice) (matrix parts : List Float) (r : Outcome) (m p : List Float)
+-- so whatever result and rooms the promise of `durbin_watson_test` allows for a run, it allows for one that is alike
+pub allowed : (e e' : List Float) → Alike e e' → (x : List Float) (k : ℕ) (a : Alternative) (c : Choice) (matrix parts : List Float) (r : Outcome) (m p : List Float)
     → Promised e x k a c matrix parts r m p → Promised e' x k a c matrix parts r m p
-allowed e e' h keeps x k a c matrix parts r m p f =
+allowed e e' h x k a c matrix parts r m p f = let s = h x k a c matrix parts in (f.0 ∙ sym s.0, f.1 ∙ sym s.1, f.2 ∙ sym s.2)
+
+-- and what is vouched for of a run's result, is of one that is alike and as well held
+pub vouched-allowed : (e e' : List Float) → Alike e e' → (T (held? e) → T (held? e')) → (x : List Float) (k : ℕ) (a : Alternative) (c : Choice) (matrix parts : List Float) (r : Outcome) (m p : List Float)
+    → Promised e x k a c matrix parts r m p → Vouched r e → Vouched r e'
+vouched-allowed e e' h keeps x k a c matrix parts r m p f v =
     let s = h x k a c matrix parts in
     let same = f.0 ∙ sym s.0 in
-    (same, f.1 ∙ sym s.1, f.2 ∙ sym s.2, go (passes r.refusal) f.3 (λ held. subst (λ (o : Outcome). Vouched o e') (sym same) (vouched e' x k a c (length matrix) (length parts) held)))
+    go (passes r.refusal) v (λ held. subst (λ (o : Outcome). Vouched o e') (sym same) (vouched e' x k a c (length matrix) (length parts) held))
   where
     go : (b : Bool) → SureIf b r.statistic e → (T (held? e') → SureIf b r.statistic e') → SureIf b r.statistic e'
     go true known given = given (keeps known.held)

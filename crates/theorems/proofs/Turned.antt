@@ -122,4 +122,4 @@ turned-held e h =
 -- whatever the promise allows for a run, it allows for the turned one
 pub sign-allowed : (e x : List Float) (k : ℕ) (a : Alternative) (c : Choice) (matrix parts : List Float) (r : Outcome) (m p : List Float)
     → Promised e x k a c matrix parts r m p → Promised (turned e) x k a c matrix parts r m p
-sign-allowed e = allowed e (turned e) (sign e) (turned-held e)
+sign-allowed e = allowed e (turned e) (sign e)

@@ -1,19 +1,19 @@
 -- p by the exact path lies in 0 .. 1: it is the clamped lower tail q, 1 - q, or twice the smaller. One idea: rounding keeps the order, so where q is at least 1/2 the
 -- rounded 1 - q is at most 1/2, and the other way round; the smaller of the two is at most 1/2. Assumes nothing.
-use mathlib.Core.Path.{◌≡◌, refl, sym, ◌∙◌, subst}
+use mathlib.Core.Path.{◌≡◌, refl, sym, ◌∙◌}
 use mathlib.Core.Bool.{Bool, true, false, ◌&&◌, ◌||◌, cond, true≢false}
-use Prim.Native.Nat.{ℕ, ◌+◌, ◌-◌, ◌*◌, ◌^◌, ◌≤◌, ◌<◌}
+use Prim.Native.Nat.{ℕ, ◌+◌, ◌-◌, ◌*◌, ◌≤◌, ◌<◌}
 use native.Mathlib.Nat.{zero-mul, mul-pos, mul-le-mul_right, mul-lt-mul_of_pos_right}
 use native.Mathlib.Decide.{dec_le}
 use native.Mathlib.Omega.{arith}
-use lib.IntN.{ℤ, pos}
+use lib.IntN.{ℤ}
 use lib.Dec.{T, ltb, eqb, ltb→lt, lit<}
 use borrow.Author.Tests.{ltb-true, ltb-false, eqb-true, lt-ltb, le-ltb}
-use lib.Ieee.{Float, nan, inf, fin, binary64, up, down, below, level, size, odd, units, round, sum, add, sub, neg, lt, le, eq, is_nan, of_bits}
+use lib.Ieee.{Float, nan, inf, fin, binary64, up, down, size, odd, units, round, sum, add, sub, neg, lt, le, eq, is_nan, of_bits}
 use lib.Ieee.Fits.{down_pos}
 use lib.Ieee.Bits.{is_true}
 use lib.Ieee.Order.{le_of_values, round_mono}
-use Rattle.floats.specs.Words.{◌⊖◌, ◌⊗◌, plus_zero, one, two}
+use Rattle.floats.specs.Words.{◌⊖◌, plus_zero, one}
 use Rattle.elementary.specs.Patterns.{half}
 use Rattle.elementary.specs.Bounds.{Within}
 use Rattle.elementary.proofs.Small.{fraction-within}

@@ -1,10 +1,9 @@
 -- Document 01's sheets worked by hand, P1 to P12, as one table under one theorem; and that each of the fourteen numbers occurs. What the definition of the test answers is
 -- worked out by the definition itself. Assumes nothing.
 use mathlib.Core.Path.{◌≡◌, refl}
-use mathlib.Core.List.{List, [], ◌∷◌, map}
-use Prim.Native.Nat.{ℕ}
-use lib.Ieee.{Float, add, sub, mul, div, neg, lt, le, eq, is_nan, of_bits, of_int}
-use Rattle.floats.specs.Words.{float, plus_zero, one, two}
+use mathlib.Core.List.{[], ◌∷◌, map}
+use lib.Ieee.{add, sub, mul, div, neg, lt, le, eq, is_nan, of_bits, of_int}
+use Rattle.floats.specs.Words.{float, one, two}
 use Rattle.floats.specs.Sums.{sum_of}
 use Rattle.floats.specs.Search.{first_where, first_bad}
 use Rattle.floats.specs.Turns.{turns}
@@ -15,15 +14,10 @@ use Rattle.design.specs.Matrix.{row, matrix, every}
 use Rattle.design.specs.Factor.{left_to, factor_of, fails_at, pivots_of}
 use Rattle.design.specs.Inverse.{lower_inverse, inverse_from}
 use Rattle.design.specs.Law.{law_from}
-use Rattle.outcome.specs.declared.Alternative.{Alternative}
-use Rattle.outcome.specs.declared.Alternative.TheVariants.{Greater, Less, TwoSided}
 use Rattle.outcome.specs.Refusals.{first_of}
 use Rattle.dwtest.specs.Verdict.{normal_path}
 use Rattle.dwtest.specs.Test.{design_of, test_with}
-use Rattle.outcome.specs.declared.Outcome.{Outcome}
-use Rattle.outcome.specs.declared.Choice.{Choice}
-use Rattle.outcome.specs.declared.Choice.TheVariants.{Default, Exact, Normal}
-use Rattle.theorems.specs.Sheets.{Sheet, sheet, Answer, refused, answered, answer_to, minus_one, large, faint, hand-worked, refusals}
+use Rattle.theorems.specs.Sheets.{refused, answered, answer_to, hand-worked, refusals}
 
 pub worked : map answer_to hand-worked ≡
     answered two one 1

@@ -3,3 +3,4 @@ pub mod Full
 pub mod Sheets
 pub mod Scan
 pub mod Figures
+pub mod Work

@@ -3,7 +3,7 @@ use Rattle.std.specs.Prelude.{ℕ, true, List, [], ◌∷◌, replicate, Float}
 use Rattle.std.specs.Float.{nan, inf}
 use Rattle.floats.specs.Words.{float, plus_zero, one}
 use Rattle.outcome.specs.declared.Alternative.{Alternative}
-use Rattle.outcome.specs.declared.Alternative.TheVariants.{Greater, Less, TwoSided}
+use Rattle.outcome.specs.declared.Alternative.TheVariants.{Greater}
 use Rattle.dwtest.specs.Test.{test_of}
 use Rattle.outcome.specs.declared.Outcome.{Outcome}
 use Rattle.outcome.specs.declared.Choice.{Choice}
