@@ -250,6 +250,13 @@ residual-at file e t l = get_d-table (λ t. body_number file e (0 + t)) e.rows t
 pub column-at : (file : List ℕ) (e : Entry) (c t : ℕ) → c < e.columns → t < e.rows → columns_of file e ‼ (c * e.rows + t) ≡ body_number file e (e.rows + (c * e.rows + t))
 column-at file e c t k l = get_d-table (λ t. body_number file e (e.rows + t)) (e.rows * e.columns) (c * e.rows + t) nan (rw (mul_comm e.rows e.columns) (digits_lt k l))
 
+-- what the fronts of the runs are that `read_residuals` and `read_columns` leave
+pub residuals-front : (file : List ℕ) (e : Entry) (rest : List Float) → take e.rows (residuals_of file e ++ rest) ≡ residuals_of file e
+residuals-front file e rest = take_at (residuals_of file e) rest e.rows (length-table (λ t. body_number file e (0 + t)) e.rows)
+
+pub columns-front : (file : List ℕ) (e : Entry) (rest : List Float) → take (e.rows * e.columns) (columns_of file e ++ rest) ≡ columns_of file e
+columns-front file e rest = take_at (columns_of file e) rest (e.rows * e.columns) (length-table (λ t. body_number file e (e.rows + t)) (e.rows * e.columns))
+
 -- what is read where the body lies within the file and the run is long enough: all the numbers, at the front of the run
 module _ (file : List ℕ) (e : Entry) (run : List Float) {r : ℕ} {left : List Float} (within : body_end e ≤ length file) where
   numbers-front : (first count : ℕ) → count ≤ length run → r ≡ read_count file e count run → left ≡ read_into file e first count run → (r ≡ count) × (take r left ≡ numbers_of file e first count)
@@ -258,9 +265,9 @@ module _ (file : List ℕ) (e : Entry) (run : List Float) {r : ℕ} {left : List
       let front : left ≡ numbers_of file e first count ++ drop count run = rw (le-leb _ _ within, le-leb _ _ room) at q in
       (all, rw (all, front) (take_at (numbers_of file e first count) (drop count run) count (length-table (λ t. body_number file e (first + t)) count)))
 
-  pub residuals-front : e.rows ≤ length run → r ≡ read_count file e e.rows run → left ≡ read_into file e 0 e.rows run → (r ≡ e.rows) × (take r left ≡ residuals_of file e)
-  residuals-front = numbers-front 0 e.rows
+  pub residuals-read : e.rows ≤ length run → r ≡ read_count file e e.rows run → left ≡ read_into file e 0 e.rows run → (r ≡ e.rows) × (take r left ≡ residuals_of file e)
+  residuals-read = numbers-front 0 e.rows
 
-  pub columns-front : e.rows * e.columns ≤ length run → r ≡ read_count file e (e.rows * e.columns) run → left ≡ read_into file e e.rows (e.rows * e.columns) run
+  pub columns-read : e.rows * e.columns ≤ length run → r ≡ read_count file e (e.rows * e.columns) run → left ≡ read_into file e e.rows (e.rows * e.columns) run
       → (r ≡ e.rows * e.columns) × (take r left ≡ columns_of file e)
-  columns-front = numbers-front e.rows (e.rows * e.columns)
+  columns-read = numbers-front e.rows (e.rows * e.columns)

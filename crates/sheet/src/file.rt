@@ -1,6 +1,6 @@
 // A sheet file: a count in 4 bytes, 16 bytes an entry, then the bodies in order with no gaps. Numbers stand least byte first.
-ghost use Rattle.std.specs.Prelude.{◌≡◌, ◌+◌, ◌*◌, ◌<◌, ◌≤◌, length};
-ghost use Rattle.sheet.specs.Contents.{count_of, entry_place, entry_of, body_start, numbers_start, body_end, position_of, body_number, body_count, read_count, read_into, Counts};
+ghost use Rattle.std.specs.Prelude.{◌≡◌, ◌+◌, ◌*◌, ◌<◌, ◌≤◌, ◌++◌, length, drop};
+ghost use Rattle.sheet.specs.Contents.{count_of, entry_place, entry_of, body_start, numbers_start, body_end, position_of, body_number, numbers_of, residuals_of, columns_of, body_count, read_count, read_into, Counts};
 ghost use Rattle.sheet.specs.declared.file.FileRefusal.TheVariants.{Codes};
 ghost use Rattle.sheet.specs.Reading.{due_at, not_rising, meets, entry_fault, refusals_from, first_met, read_file, check_of, number_of, index_of, next_of};
 
@@ -20,7 +20,7 @@ const ENTRY_BYTES: usize = 16;
 
 // Where one sheet's body begins, its size, its two codes (alternative 0 greater, 1 less, 2 two-sided; choice 0 default, 1 exact,
 // 2 normal) and its positions byte: with 1 the body opens with the rows' print positions. The bytes stand here as they are in the file.
-#[derive(Drop)]
+#[derive(Clone, Copy)]
 pub struct Entry {
     pub offset: u32,
     pub rows: u16,
@@ -31,7 +31,7 @@ pub struct Entry {
 }
 
 // The file refusals in the order tried, with the entry that met 4, 5, 6 or 8.
-#[derive(Drop)]
+#[derive(Clone, Copy)]
 pub enum FileRefusal {
     Size,
     Count,
@@ -44,20 +44,20 @@ pub enum FileRefusal {
 }
 
 // A file is accepted with its count of entries, or refused.
-#[derive(Drop)]
+#[derive(Clone, Copy)]
 pub enum FileCheck {
     Accepted(usize),
     Refused(FileRefusal),
 }
 
 // What a reader finds next.
-#[derive(Drop)]
+#[derive(Clone, Copy)]
 pub enum Next {
     Sheet(Entry),
     End,
 }
 
-#[derive(Drop)]
+#[derive(Clone, Copy)]
 enum Fault {
     Met(FileRefusal),
     Sound,
@@ -98,7 +98,7 @@ impl FileRefusal {
 }
 
 // Entry `i` of the contents.
-fn entry_at(file: &[u8], i: usize) -> Entry
+pub fn entry_at(file: &[u8], i: usize) -> Entry
     requires { entry_place (i + 1) ≤ length file.now }
     ensures { result ≡ entry_of file.now i }
 {
@@ -275,12 +275,13 @@ fn body_number(file: &[u8], e: Entry, t: usize) -> f64
     float_at(file, numbers_start(e) + 8 * t)
 }
 
-// Puts `count` numbers of a body, from number `first` on, at the front of `run`, and gives `count`; where the body is not all in the file or the run is
-// shorter, 0, and the run stays.
+// Puts `count` numbers of a body, from number `first` on, at the front of `run`, where the rest stays, and gives `count`; where the body is not all in
+// the file or the run is shorter, 0, and the run stays.
 fn read_numbers(file: &[u8], e: Entry, first: usize, count: usize, run: &mut [f64]) -> usize
     requires { first + count ≤ body_count e }
     ensures value { result ≡ read_count file.now e count run.old }
     ensures run_after { run.new ≡ read_into file.now e first count run.old }
+    ensures all_read { body_end e ≤ length file.now → count ≤ length run.old → run.new ≡ numbers_of file.now e first count ++ drop count run.old }
     ensures counts { Counts result run.new }
 {
     if body_end(e) > file.len() {
@@ -300,6 +301,8 @@ fn read_numbers(file: &[u8], e: Entry, first: usize, count: usize, run: &mut [f6
 pub fn read_residuals(file: &[u8], e: Entry, run: &mut [f64]) -> usize
     ensures value { result ≡ read_count file.now e e.rows run.old }
     ensures run_after { run.new ≡ read_into file.now e 0 e.rows run.old }
+    ensures all_counted { body_end e ≤ length file.now → e.rows ≤ length run.old → result ≡ e.rows }
+    ensures all_read { body_end e ≤ length file.now → e.rows ≤ length run.old → run.new ≡ residuals_of file.now e ++ drop e.rows run.old }
     ensures counts { Counts result run.new }
 {
     read_numbers(file, e, 0, e.rows as usize, run)
@@ -309,6 +312,8 @@ pub fn read_residuals(file: &[u8], e: Entry, run: &mut [f64]) -> usize
 pub fn read_columns(file: &[u8], e: Entry, run: &mut [f64]) -> usize
     ensures value { result ≡ read_count file.now e (e.rows * e.columns) run.old }
     ensures run_after { run.new ≡ read_into file.now e e.rows (e.rows * e.columns) run.old }
+    ensures all_counted { body_end e ≤ length file.now → e.rows * e.columns ≤ length run.old → result ≡ e.rows * e.columns }
+    ensures all_read { body_end e ≤ length file.now → e.rows * e.columns ≤ length run.old → run.new ≡ columns_of file.now e ++ drop (e.rows * e.columns) run.old }
     ensures counts { Counts result run.new }
 {
     let rows = e.rows as usize;

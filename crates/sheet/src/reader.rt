@@ -8,7 +8,7 @@ use super::file::{Next, next_at};
 // 2^64 - 1.
 const LAST_NUMBER: usize = 18_446_744_073_709_551_615;
 
-#[derive(Drop)]
+#[derive(Clone, Copy)]
 pub struct Reader<'a> {
     pub file: &'a [u8],
     pub next: usize,
@@ -57,7 +57,7 @@ impl<'a> Reader<'a> {
     }
 }
 
-// Entry `i` of a file, through a reader. Its parameters are plain, so that no caller needs a walk.
+// Entry `i` of a file, through a reader.
 pub fn read_entry(file: &[u8], i: usize) -> Next
     ensures { result ≡ next_of file.now i }
 {
