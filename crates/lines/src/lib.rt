@@ -1,5 +1,7 @@
 // The lines that answer a sheet file: words with one space between, and a newline at the end. The result's line is said here and in
 // specs/Fields.antt, field by field, and nowhere else.
+#![tactic(auto)]
+
 mod words;
 
 ghost use Rattle.std.specs.Prelude.{◌≡◌};

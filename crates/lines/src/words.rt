@@ -3,7 +3,7 @@ ghost use Rattle.std.specs.Prelude.{◌≡◌, [], ◌∷◌, ◌++◌, ◌+◌,
 ghost use Rattle.lines.specs.Lines.{digit_of, digits, width_of, text_of, widest_of, behind, line_of, longest_of, kinds_of, kind_at, words_at, put_at};
 
 // How a word is printed: a number in decimal, a pattern of 64 bits in 16 hex digits.
-#[derive(Drop)]
+#[derive(Clone, Copy)]
 pub enum Kind {
     Decimal,
     Hex,
