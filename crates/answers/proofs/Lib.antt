@@ -3,4 +3,3 @@ pub mod NextLaws
 pub mod AnswerLaws
 pub mod OneOutcome
 pub mod Examples
-pub mod Walk

@@ -1,4 +1,6 @@
 // The answer to a sheet file, as bytes: a line for each of its sheets in order, or the one line of its refusal.
+#![tactic(auto)]
+
 ghost use Rattle.std.specs.Prelude.{◌≡◌, ◌+◌, ◌-◌, ◌*◌, ◌≤◌, length};
 ghost use Rattle.sheet.specs.Contents.{Counts, count_of};
 ghost use Rattle.sheet.specs.Reading.{next_of};
@@ -54,7 +56,7 @@ fn put_line(file: &[u8], i: usize, e: Entry, out: &mut [u8], at: usize) -> usize
 }
 
 // Where the lines put so far end, and whether the reader was at the end.
-#[derive(Drop)]
+#[derive(Clone, Copy)]
 struct Step {
     at: usize,
     end: bool,
@@ -74,8 +76,7 @@ fn put_next(file: &[u8], i: usize, next: Next, out: &mut [u8], at: usize) -> Ste
     }
 }
 
-// Puts the lines of a file's sheets at the front of `out`, as a reader goes through the file; gives their length. It has a reader in a local, so its proof
-// is a walk of its code; the work is `put_next`'s.
+// Puts the lines of a file's sheets at the front of `out`, as a reader goes through the file; gives their length.
 fn put_lines(file: &[u8], out: &mut [u8]) -> usize
     requires { (Tiled file.now (count_of file.now)) × (most_bytes ≤ length out.old) }
     ensures { (result ≡ length (lines_to file.now (count_of file.now))) × (out.new ≡ put_at 0 (lines_to file.now (count_of file.now)) out.old) }
