@@ -2,13 +2,16 @@
 // refusal's line, or with one line an entry: index, alternative, choice, digests of the residuals and of the columns, rows, columns, offset,
 // positions byte, digest of the positions. The input is made by measure/sheet/stored: for each file its length and how many of its bytes
 // are given (4 bytes each, the least first; those not given are zeros), a label of 24 bytes, and the bytes given.
+#![tactic(auto)]
+
 ghost use Rattle.std.specs.Prelude.{◌≡◌, ◌+◌, ◌≤◌, length};
 ghost use Rattle.sheet.specs.Contents.{largest_file};
 
 use floats::bits::{bits_of, little_endian};
-use libc::{STDIN_FILENO, STDOUT_FILENO};
 use lines::LONGEST;
 use sheet::file::{Entry, FileCheck, FileRefusal, LARGEST, MOST_NUMBERS, Next};
+use std::io;
+use std::io::Read;
 
 // A digest is a word that depends on each pattern and on their order: three times the word of those before, and the pattern.
 fn digest_more(word: u64, pattern: u64) -> u64 {
@@ -36,21 +39,21 @@ fn digest_positions(file: &[u8], e: Entry) -> u64 {
     word
 }
 
-fn print_refusal(label: &[u8], refusal: FileRefusal) {
+fn print_refusal(rt: &impl Print, label: &[u8], refusal: FileRefusal) -> io::Result<()> {
     let mut out = [0u8; LONGEST];
     let n = lines::write_file_refusal(refusal, &mut out);
-    io::write_all(STDOUT_FILENO, label);
-    io::write_all(STDOUT_FILENO, &out[..n]);
+    rt.write_all(label)?;
+    rt.write_all(&out[..n])
 }
 
-fn print_words(label: &[u8], words: &[u64], patterns: &[usize]) {
+fn print_words(rt: &impl Print, label: &[u8], words: &[u64], patterns: &[usize]) -> io::Result<()> {
     let mut out = [0u8; LONGEST];
     let n = lines::write_words(words, patterns, &mut out);
-    io::write_all(STDOUT_FILENO, label);
-    io::write_all(STDOUT_FILENO, &out[..n]);
+    rt.write_all(label)?;
+    rt.write_all(&out[..n])
 }
 
-fn print_entry(label: &[u8], file: &[u8], i: usize, e: Entry) {
+fn print_entry(rt: &impl Print, label: &[u8], file: &[u8], i: usize, e: Entry) -> io::Result<()> {
     let mut run = [0.0f64; MOST_NUMBERS];
     let n = sheet::file::read_residuals(file, e, &mut run);
     let residuals = digest(&run[..n]);
@@ -68,21 +71,22 @@ fn print_entry(label: &[u8], file: &[u8], i: usize, e: Entry) {
         e.positions as u64,
         digest_positions(file, e),
     ];
-    print_words(label, &words, &[3, 4]);
+    print_words(rt, label, &words, &[3, 4])
 }
 
-fn print_entries(label: &[u8], file: &[u8], count: usize) {
+fn print_entries(rt: &impl Print, label: &[u8], file: &[u8], count: usize) -> io::Result<()> {
     for i in 0..count {
         if let Next::Sheet(e) = sheet::reader::read_entry(file, i) {
-            print_entry(label, file, i, e);
+            print_entry(rt, label, file, i, e)?;
         }
     }
+    Ok(())
 }
 
-fn print_file(label: &[u8], file: &[u8]) {
+fn print_file(rt: &impl Print, label: &[u8], file: &[u8]) -> io::Result<()> {
     match sheet::file::check_file(file) {
-        FileCheck::Accepted(count) => print_entries(label, file, count),
-        FileCheck::Refused(refusal) => print_refusal(label, refusal),
+        FileCheck::Accepted(count) => print_entries(rt, label, file, count),
+        FileCheck::Refused(refusal) => print_refusal(rt, label, refusal),
     }
 }
 
@@ -94,36 +98,44 @@ fn room() -> [u8; LARGEST + 1]
 }
 
 // A file of `size` bytes, the first `given` of which are read.
-fn print_given(label: &[u8], file: &mut [u8], size: usize, given: usize)
+fn print_given(
+    rt: &(impl Input + Print),
+    label: &[u8],
+    file: &mut [u8],
+    size: usize,
+    given: usize,
+) -> io::Result<()>
     requires { (given ≤ size) × (size ≤ length file.old) }
 {
-    io::read_full(STDIN_FILENO, &mut file[..given]);
-    print_file(label, &file[..size]);
+    // Where the input ends before, the rest are zeros.
+    let _ = rt.reader().read_exact(&mut file[..given]);
+    print_file(rt, label, &file[..size])
 }
 
 // Whether there was another file.
-fn print_next() -> bool {
+fn print_next(rt: &(impl Input + Print)) -> io::Result<bool> {
     let mut head = [0u8; 32];
-    if io::read_full(STDIN_FILENO, &mut head) < 32 {
-        return false;
+    if rt.reader().read_exact(&mut head).is_err() {
+        return Ok(false);
     }
     let size = little_endian(&head, 0, 4) as usize;
     let given = little_endian(&head, 4, 4) as usize;
     if size > LARGEST + 1 {
-        return false;
+        return Ok(false);
     }
     if given > size {
-        return false;
+        return Ok(false);
     }
     let mut file = room();
-    print_given(&head[8..], &mut file, size, given);
-    true
+    print_given(rt, &head[8..], &mut file, size, given)?;
+    Ok(true)
 }
 
-fn main() {
+fn main(rt: HostRuntime) -> io::Result<()> {
     for _ in 0u64..1_000_000 {
-        if !print_next() {
-            return;
+        if !print_next(&rt)? {
+            break;
         }
     }
+    Ok(())
 }
