@@ -4,15 +4,18 @@
 // least byte alone is read), how many numbers of the matrix room and of the part room are lent; then the patterns of the residuals
 // and of the columns' numbers. The line: the sheet program's fields, then n and alternative of the answer, the law's mean and variance, and a
 // word for each room: 0 it is as it was in every bit, 1 its first n (n + 1), or PART_ROOM, numbers are +0 and the others as they were, 2 anything else.
+#![tactic(auto)]
+
 mod print;
 mod rooms;
 
-ghost use Rattle.std.specs.Prelude.{◌≡◌, ◌+◌, ◌*◌, ◌≤◌, ◌<◌, length};
+ghost use Rattle.std.specs.Prelude.{◌*◌, ◌≤◌, length};
 
 use floats::bits::{float_at, little_endian};
 use imhof::PART_ROOM;
-use libc::STDIN_FILENO;
 use outcome::{alternative_of, choice_of};
+use std::io;
+use std::io::Read;
 
 const MOST_CALLS: usize = 1_000_000;
 
@@ -28,7 +31,15 @@ fn read_numbers(bytes: &[u8], count: usize, run: &mut [f64])
 }
 
 // Fills both rooms, calls the test with the first n numbers of a run as residuals and the others as columns, and prints the line of call `i`.
-fn test(i: usize, head: &[u8; 56], run: &[f64], n: usize, matrix: &mut [f64], parts: &mut [f64])
+fn test(
+    rt: &impl Print,
+    i: usize,
+    head: &[u8; 56],
+    run: &[f64],
+    n: usize,
+    matrix: &mut [f64],
+    parts: &mut [f64],
+) -> io::Result<()>
     requires { (n ≤ length run.now) × (n ≤ 4096) }
 {
     rooms::fill(matrix);
@@ -42,55 +53,64 @@ fn test(i: usize, head: &[u8; 56], run: &[f64], n: usize, matrix: &mut [f64], pa
         matrix,
         parts,
     );
-    print::print_outcome(i, outcome);
+    print::print_outcome(rt, i, outcome)?;
     print::print_rooms(
+        rt,
         rooms::held(matrix, n * (n + 1)),
         rooms::held(parts, PART_ROOM),
-    );
+    )
 }
 
 // A call whose head was read, with room for its numbers; false where it asks for more of them than there are, or the input ends.
 fn call_of(
+    rt: &(impl Input + Print),
     i: usize,
     head: &[u8; 56],
     bytes: &mut [u8],
     run: &mut [f64],
     matrix: &mut [f64],
     parts: &mut [f64],
-) -> bool
+) -> io::Result<bool>
     requires { (32768 ≤ length bytes.old) × (4096 ≤ length run.old) }
 {
     let n = little_endian(head, 0, 8) as usize;
     let m = little_endian(head, 8, 8) as usize;
     if n > MOST_NUMBERS {
-        return false;
+        return Ok(false);
     }
     if m > MOST_NUMBERS - n {
-        return false;
+        return Ok(false);
     }
     let count = n + m;
     let size = 8 * count;
-    if io::read_full(STDIN_FILENO, &mut bytes[..size]) != size {
-        return false;
+    if rt.reader().read_exact(&mut bytes[..size]).is_err() {
+        return Ok(false);
     }
     read_numbers(bytes, count, run);
-    test(i, head, &run[..count], n, matrix, parts);
-    true
+    test(rt, i, head, &run[..count], n, matrix, parts)?;
+    Ok(true)
 }
 
 // The same, in as much of the rooms as it asks for; false too where there is less.
-fn one_call(i: usize, head: &[u8; 56], matrix: &mut [f64], parts: &mut [f64]) -> bool {
+fn one_call(
+    rt: &(impl Input + Print),
+    i: usize,
+    head: &[u8; 56],
+    matrix: &mut [f64],
+    parts: &mut [f64],
+) -> io::Result<bool> {
     let a = little_endian(head, 40, 8) as usize;
     let b = little_endian(head, 48, 8) as usize;
     if a > matrix.len() {
-        return false;
+        return Ok(false);
     }
     if b > parts.len() {
-        return false;
+        return Ok(false);
     }
     let mut bytes = [0u8; 8 * MOST_NUMBERS];
     let mut run = [0.0f64; MOST_NUMBERS];
     call_of(
+        rt,
         i,
         head,
         &mut bytes,
@@ -100,21 +120,21 @@ fn one_call(i: usize, head: &[u8; 56], matrix: &mut [f64], parts: &mut [f64]) ->
     )
 }
 
-fn calls(matrix: &mut [f64], parts: &mut [f64]) {
+fn calls(rt: &(impl Input + Print), matrix: &mut [f64], parts: &mut [f64]) -> io::Result<()> {
     for i in 0..MOST_CALLS {
         let mut head = [0u8; 56];
-        if io::read_full(STDIN_FILENO, &mut head) != 56 {
-            return;
+        if rt.reader().read_exact(&mut head).is_err() {
+            return Ok(());
         }
-        if !one_call(i, &head, matrix, parts) {
-            print::print_cut();
-            return;
+        if !one_call(rt, i, &head, matrix, parts)? {
+            return print::print_cut(rt);
         }
     }
+    Ok(())
 }
 
-fn main() {
+fn main(rt: HostRuntime) -> io::Result<()> {
     let mut matrix = rooms::matrix_room();
     let mut parts = rooms::part_room();
-    calls(&mut matrix, &mut parts);
+    calls(&rt, &mut matrix, &mut parts)
 }

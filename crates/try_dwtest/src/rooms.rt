@@ -1,5 +1,5 @@
 // The two rooms: what they are filled with before a call, and what they hold after it.
-ghost use Rattle.std.specs.Prelude.{◌≡◌, ◌+◌, ◌*◌, ◌≤◌, length};
+ghost use Rattle.std.specs.Prelude.{◌≡◌, ◌+◌, ◌*◌, length};
 ghost use Rattle.floats.specs.Limits.{max_rows};
 ghost use Rattle.imhof.specs.Room.{part_room};
 
