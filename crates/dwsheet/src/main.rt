@@ -1,4 +1,6 @@
 // The sheet program: a sheet file on standard input, its answer on standard output.
-fn main() {
-    console::answer_input();
+#![tactic(auto)]
+
+fn main(rt: HostRuntime) {
+    console::answer_input(&rt);
 }
