@@ -1,5 +1,5 @@
-/* The Durbin-Watson test of regression residuals, for C. The library is target/staticlib/libdwexport.a, for x86-64, which
-   `rt staticlib dwexport` proves and writes. What stands here of results and rooms is its promise (crates/dwexport/src/lib.rt). */
+/* The Durbin-Watson test of regression residuals, for C. The library is crates/dwexport/out/libdwexport.a, for x86-64-v2, which
+   `rt lib` in crates/dwexport proves and writes. What stands here of results and rooms is its promise (crates/dwexport/src/lib.rt). */
 #ifndef DWEXPORT_H
 #define DWEXPORT_H
 
@@ -70,7 +70,7 @@ enum {
    other call leaves both rooms as they were. What the rooms hold before a call does not matter. residuals and columns are only read.
 
    The function has no heap, keeps nothing between calls and calls nothing but memset and memcpy: threads may call it at once, each
-   with a result and rooms of its own. It wants some 48 KB of stack.
+   with a result and rooms of its own. It wants some 64 KB of stack (measured, not proved).
 
    Duties of the caller, which nothing can check: the rows are in print order, which no positions show here; each pointer points to as
    many numbers as its length says, aligned to 8 bytes, and is not NULL even where the length is 0; matrix, parts and result overlap

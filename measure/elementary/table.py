@@ -206,7 +206,7 @@ def check(table, fits):
     compare("src/points.rt", "POINTS", source, sum(columns, []), complaints)
     for name, column in zip(("tangents", "angles", "logarithms"), columns):
         compare("specs/Points.antt", name, of_spec("specs/Points.antt", name), column, complaints)
-    for name, list_name, fit in zip(("ANGLE", "LOG"), ("angleTable", "logTable"), fits):
+    for name, list_name, fit in zip(("ANGLE", "LOG"), ("angle_table", "log_table"), fits):
         compare("src/near.rt", name, of_source("src/near.rt", name, complaints), fit[0], complaints)
         compare("specs/Near.antt", list_name, of_spec("specs/Near.antt", list_name), fit[0], complaints)
     landed = [source[at : at + ROWS] for at in (0, ROWS, 2 * ROWS)]

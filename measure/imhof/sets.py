@@ -1,7 +1,6 @@
 """Sets of eigenvalues for Imhof's probability, what the oracle says of them, and the records that crates/try_imhof reads."""
 import math
 import os
-import platform
 import random
 import shutil
 import struct
@@ -197,18 +196,11 @@ def integral_record(values, d, answer):
 
 
 def replay(data):
-    """What the compiled try_imhof prints for `data`: by the kit's loader, and under its emulator where the machine is another."""
-    path = os.path.join(ROOT, "target", "bin", "try_imhof")
-    rt = shutil.which("rt")
-    if rt is None or not os.access(path, os.X_OK):
-        raise Failed("no compiled try_imhof: run `rt check try_imhof` first")
-    kit = os.environ.get("RATTLE_HOME") or os.path.dirname(os.path.dirname(os.path.realpath(rt)))
-    tools = os.path.join(kit, "on", platform.machine(), "toolchain")
-    emulator = os.path.join(tools, "bin", "qemu-x86_64")
-    words = [os.path.join(tools, "lib", "ld-linux-x86-64.so.2"), "--library-path", os.path.join(tools, "lib"), path]
-    if os.access(emulator, os.X_OK):
-        words.insert(0, emulator)
-    return run(words, input=data, stdout=subprocess.PIPE).stdout.decode("ascii", "replace")
+    """What the compiled try_imhof prints for `data`."""
+    path = os.path.join(ROOT, "crates", "try_imhof", "out", "try_imhof")
+    if not os.access(path, os.X_OK):
+        raise Failed("no compiled try_imhof: `rt run` in crates/try_imhof first")
+    return run([path], input=data, stdout=subprocess.PIPE).stdout.decode("ascii", "replace")
 
 
 def all_right(records):

@@ -10,23 +10,14 @@ command -v rt >/dev/null || { echo "count.sh: no rt on the PATH" >&2; exit 1; }
 speed=target/speed
 measure/speed/setup.sh $speed
 
-# The port by the kit: a repository of its own, with roots, what it stands on, and a crate that gives them C names.
-kit=$speed/roots
-mkdir -p $kit/crates/counted/src
-: >$kit/crates.txt
-for crate in floats roots; do
-    grep "^$crate:" crates.txt >>$kit/crates.txt
-    rm -rf "$kit/crates/$crate"
-    cp -R "crates/$crate" "$kit/crates/$crate"
-done
-echo 'counted: roots' >>$kit/crates.txt
-cp measure/roots/counted.rt.in $kit/crates/counted/src/lib.rt
-(cd $kit && rt staticlib counted) >$kit/kit.log 2>&1 || { tail -n 5 $kit/kit.log >&2; echo "count.sh: the kit refused ($kit/kit.log)" >&2; exit 1; }
-$speed/cc -O2 -static -o $kit/count measure/roots/count.c $kit/target/staticlib/libcounted.a -lm
+# The port by the kit: a static library that gives the functions of roots C names.
+out=$speed/roots
+measure/speed/archive.sh counted measure/roots/counted.rt.in $out roots
+$speed/cc -O2 -static -o $out/count measure/roots/count.c $out/libcounted.a -lm
 
 # Instructions of CALLS calls, by processor, function and arguments.
 count() {
-    CPU=$1 $speed/count $kit/count "$2" "$3" "$calls" 2>&1 >/dev/null | sed -n 's/^guest instructions //p'
+    CPU=$1 $speed/count $out/count "$2" "$3" "$calls" 2>&1 >/dev/null | sed -n 's/^guest instructions //p'
 }
 echo "| function | arguments | instructions a call |"
 echo "|---|---|---|"

@@ -10,19 +10,11 @@ for tool in rt python3; do command -v $tool >/dev/null || { echo "functions.sh: 
 speed=target/speed
 measure/speed/setup.sh $speed
 
-# The port by rustc, and by the kit: a repository of its own, with the crates below `elementary` and one that gives them C names.
+# The port by rustc, and by the kit: a static library that gives the functions of elementary C names.
 python3 measure/elementary/port.py elementary $speed/port $speed/rustc
 kit=$speed/kit
-mkdir -p $kit/crates/counted/src
-sed -n '/^try_/d; p' crates.txt | sed '/^elementary:/q' >$kit/crates.txt
-sed -n 's/^\([a-z_]*\):.*/\1/p' $kit/crates.txt | while read -r crate; do
-    rm -rf "$kit/crates/$crate"
-    cp -R "crates/$crate" "$kit/crates/$crate"
-done
-echo 'counted: elementary' >>$kit/crates.txt
-cp measure/speed/counted.rt.in $kit/crates/counted/src/lib.rt
-(cd $kit && rt staticlib counted) >$speed/kit.log 2>&1 || { tail -n 5 $speed/kit.log >&2; echo "functions.sh: the kit refused ($speed/kit.log)" >&2; exit 1; }
-$speed/rustc --edition 2021 -O -L $speed/port --extern elementary -L $kit/target/staticlib -o $speed/functions measure/speed/functions.rs
+measure/speed/archive.sh counted measure/speed/counted.rt.in $kit elementary
+$speed/rustc --edition 2021 -O -L $speed/port --extern elementary -L $kit -o $speed/functions measure/speed/functions.rs
 
 # Instructions of CALLS calls, by processor, function and arguments.
 count() {

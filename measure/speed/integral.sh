@@ -13,7 +13,7 @@ for tool in rt python3; do command -v $tool >/dev/null || { echo "integral.sh: n
 speed=target/speed
 measure/speed/setup.sh $speed
 here=$speed/integral
-mkdir -p $here/kit/crates/integral/src
+mkdir -p $here
 
 # The Rust: the functions of docs/src that work the probability out, and their constants, as a library.
 python3 - docs/src/src/timeseries/dwtest.rs $here/source.rs <<'END'
@@ -33,27 +33,11 @@ with open(sys.argv[2], "w", encoding="utf-8") as out:
 END
 $speed/rustc --edition 2021 -C opt-level=3 --crate-type rlib --crate-name source -o $here/libsource.rlib $here/source.rs
 
-# The port by rustc, and by the kit: a repository of its own, with the crates below `imhof` and one that gives them C names.
+# The port by rustc, and by the kit: a static library that gives Imhof's probability C names.
 python3 measure/elementary/port.py imhof $here/port $speed/rustc
 kit=$here/kit
-: >$kit/crates.txt
-for crate in floats roots elementary integrand weights imhof; do
-    grep "^$crate:" crates.txt >>$kit/crates.txt
-    rm -rf "$kit/crates/$crate"
-    cp -R "crates/$crate" "$kit/crates/$crate"
-    # A library that the repository has proved already is not proved again: the kit compares the files.
-    [ -e "target/rlib/$crate.rlib" ] || continue
-    for kept in "stamp/$crate" "rlib/$crate.rlib" "log/$crate.res" "log/$crate.out" "log/$crate.say"; do
-        [ -e "target/$kept" ] || continue
-        mkdir -p "$(dirname "$kit/target/$kept")"
-        rm -rf "$kit/target/$kept"
-        cp -Rp "target/$kept" "$kit/target/$kept"
-    done
-done
-echo 'integral: imhof floats' >>$kit/crates.txt
-cp measure/speed/integral.rt.in $kit/crates/integral/src/lib.rt
-(cd $kit && rt staticlib integral) >$here/kit.log 2>&1 || { tail -n 5 $here/kit.log >&2; echo "integral.sh: the kit refused ($here/kit.log)" >&2; exit 1; }
-$speed/rustc --edition 2021 -C opt-level=3 -L $here -L $here/port --extern floats --extern imhof --extern source -L $kit/target/staticlib -o $here/integral measure/speed/integral.rs
+measure/speed/archive.sh integral measure/speed/integral.rt.in $kit floats imhof
+$speed/rustc --edition 2021 -C opt-level=3 -L $here -L $here/port --extern floats --extern imhof --extern source -L $kit -o $here/integral measure/speed/integral.rs
 
 # Instructions of CALLS calls, by processor, side and weights.
 count() {

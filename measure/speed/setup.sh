@@ -5,7 +5,7 @@
 #   DIR/own-rustc  the same compiler for the machine itself: macros run inside the compiler
 #   DIR/cc      a C compiler and linker for x86-64
 #   DIR/count   runs an x86-64 program under qemu-user and says on standard error how many instructions it took; the processor is that
-#               of the variable CPU (qemu64 unless said)
+#               of the variable CPU (qemu64 unless said), with what x86-64-v2 has, for which the kit compiles
 # Usage: setup.sh [DIR]      (target/speed of the repository unless said; run as root, for apt-get)
 # A folder that is ready is left as it is. Then, for example:  DIR/rustc -O main.rs -o main && CPU=Haswell DIR/count ./main
 set -eu
@@ -14,6 +14,11 @@ here=$(cd "$(dirname "$0")" && pwd)
 dir=${1:-$here/../../target/speed}
 mkdir -p "$dir"
 dir=$(cd "$dir" && pwd)
+cat >"$dir/count" <<END
+#!/bin/sh
+exec qemu-x86_64 -cpu "\${CPU:-qemu64},+ssse3,+sse4.1,+sse4.2,+popcnt" -plugin "$dir/icount.so" "\$@"
+END
+chmod +x "$dir/count"
 [ ! -f "$dir/ready" ] || [ ! -x "$dir/own-rustc" ] || exit 0
 command -v apt-get >/dev/null || { echo "setup.sh: no apt-get: this is for a Debian" >&2; exit 1; }
 own=$(dpkg --print-architecture)
@@ -54,10 +59,6 @@ cat >"$dir/own-rustc" <<END
 LD_LIBRARY_PATH=$libraries exec "$dir/root/usr/bin/rustc" --sysroot "$dir/root/usr" -C linker=gcc "\$@"
 END
 gcc -O2 -shared -fPIC -o "$dir/icount.so" "$here/icount.c"
-cat >"$dir/count" <<END
-#!/bin/sh
-exec qemu-x86_64 -cpu "\${CPU:-qemu64}" -plugin "$dir/icount.so" "\$@"
-END
-chmod +x "$dir/cc" "$dir/rustc" "$dir/own-rustc" "$dir/count"
+chmod +x "$dir/cc" "$dir/rustc" "$dir/own-rustc"
 : >"$dir/ready"
 echo "ready: $dir/rustc, $dir/cc, $dir/count" >&2

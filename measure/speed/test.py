@@ -55,41 +55,15 @@ def run(words, **options):
 def logged(words, name, folder):
     path = os.path.join(SPEED, name)
     with open(path, "w", encoding="utf-8") as log:
-        if subprocess.run(words, cwd=folder, stdout=log, stderr=log).returncode != 0:
+        if subprocess.run(words, cwd=folder, stdin=subprocess.DEVNULL, stdout=log, stderr=log).returncode != 0:
             fail("%s failed: see %s" % (" ".join(words), os.path.relpath(path, ROOT)))
 
 
 def build_kit():
-    """The port as the kit compiles it: the repository's crates in a folder of their own, with one that gives the stages C names."""
-    crates = []
-    with open(os.path.join(ROOT, "crates.txt"), encoding="utf-8") as listed:
-        for line in listed:
-            name = line.split(":")[0]
-            if ":" in line and not line.startswith("#") and not name.startswith("try_"):
-                crates.append((name, line))
-    shutil.rmtree(os.path.join(KIT, "crates"), ignore_errors=True)
-    for name, _ in crates:
-        shutil.copytree(os.path.join(ROOT, "crates", name), os.path.join(KIT, "crates", name))
-        # A library that the repository has proved already is not proved again: the kit compares the files.
-        if not os.path.exists(os.path.join(ROOT, "target", "rlib", name + ".rlib")):
-            continue
-        for kept in (os.path.join("stamp", name), os.path.join("rlib", name + ".rlib"), os.path.join("log", name + ".res"),
-                     os.path.join("log", name + ".out"), os.path.join("log", name + ".say")):
-            theirs, ours = os.path.join(ROOT, "target", kept), os.path.join(KIT, "target", kept)
-            if os.path.isdir(theirs):
-                shutil.rmtree(ours, ignore_errors=True)
-                shutil.copytree(theirs, ours)
-            elif os.path.exists(theirs):
-                os.makedirs(os.path.dirname(ours), exist_ok=True)
-                shutil.copy2(theirs, ours)
-    os.makedirs(os.path.join(KIT, "crates", "tested", "src"))
-    shutil.copy2(os.path.join(HERE, "tested.rt.in"), os.path.join(KIT, "crates", "tested", "src", "lib.rt"))
-    with open(os.path.join(KIT, "crates.txt"), "w", encoding="utf-8") as listed:
-        listed.writelines(line for _, line in crates)
-        listed.write("tested: floats elementary autocorrelation columns design projection tridiagonal ql eigen imhof outcome dwtest\n")
-    logged(["rt", "staticlib", "tested"], "tested.log", KIT)
-    run([os.path.join(SPEED, "rustc")] + OPTIMIZED + ["--cfg", "kit", "-L", os.path.join(KIT, "target", "staticlib"),
-        "-o", os.path.join(SPEED, "test-kit"), os.path.join(HERE, "test.rs")])
+    """The port as the kit compiles it: a static library that gives the stages C names."""
+    crates = "floats elementary autocorrelation columns design projection tridiagonal ql eigen imhof outcome dwtest".split()
+    run([os.path.join(HERE, "archive.sh"), "tested", os.path.join(HERE, "tested.rt.in"), KIT] + crates)
+    run([os.path.join(SPEED, "rustc")] + OPTIMIZED + ["--cfg", "kit", "-L", KIT, "-o", os.path.join(SPEED, "test-kit"), os.path.join(HERE, "test.rs")])
 
 
 def build_linked(own, name, out, libraries, flags=()):
@@ -196,13 +170,9 @@ def one_file():
     drawn = os.path.join(SPEED, "full.sheet")
     with open(drawn, "wb") as out:
         run([os.path.join(SPEED, "count"), os.path.join(SPEED, "test-kit"), "draw"], stdout=out, stderr=subprocess.DEVNULL)
-    logged(["rt", "check", "dwsheet"], "dwsheet.log", KIT)
-    kit = os.path.dirname(os.path.dirname(run(["rt", "doc"], capture_output=True).stdout.decode().strip()))
-    tools = os.path.join(kit, "on", platform.machine(), "toolchain")
-    if not os.path.isdir(tools):
-        tools = os.path.join(kit, "toolchain")
-    port_words = [os.path.join(tools, "lib", "ld-linux-x86-64.so.2"), "--library-path", os.path.join(tools, "lib"),
-                  os.path.join(KIT, "target", "bin", "dwsheet")]
+    folder = os.path.join(ROOT, "crates", "dwsheet")
+    logged(["rt", "run"], "dwsheet.log", folder)
+    port_words = [os.path.join(folder, "out", "dwsheet")]
 
     def of(words, cpu="qemu64"):
         read, printed = count(words, cpu, drawn)

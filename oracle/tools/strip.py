@@ -1,8 +1,8 @@
 """Rattle without its clauses is Rust. This cuts the clauses out.
 
-Cut: `ghost use ..;` lines, and the clauses `requires`, `ensures` and `ghost` with their braces.
-Added: `#[derive(Clone, Copy)]` on structs and enums, since plain data is copied in Rattle.
+Cut: `ghost use ..;` lines, the clauses `requires`, `ensures` and `ghost` with their braces, and the attribute `tactic`.
 Opened: private modules, so that a function can be named by its module's path.
+Sent to oracle/standins/rattle_std.rs: what Rattle's std has and Rust's has not, as the runtime that `main` takes, which it is here given at its head.
 Newlines inside what is cut stay, so that rustc's line numbers are those of the .rt file.
 """
 import os
@@ -10,6 +10,8 @@ import re
 
 CHARACTER = re.compile(r"b?'(?:\\[^']+|[^'\\])'")
 WORD = re.compile(r"[A-Za-z_][A-Za-z_0-9]*")
+# Names of Rattle's prelude that rattle_std.rs has.
+HOST = ["HostRuntime", "Print", "Eprint", "Input", "Alloc", "AllocGlobal", "Vec"]
 
 
 class StripError(Exception):
@@ -117,23 +119,29 @@ def without_clauses(text):
     return "".join(kept)
 
 
-def with_copies(text):
-    """`text` with Rattle's plain data made Copy. A type that lends `&mut` is moved in Rust too."""
-    declaration = re.compile(r"^([ \t]*)((?:pub(?:\([a-z]+\))? )?(?:struct|enum) [^;{]*(?:\{[^}]*\}|;))", re.M)
-
-    def derived(found):
-        if re.search(r"&(?:'[a-z]+ )?mut\b", found[2]):
-            return found[0]
-        return found[1] + "#[derive(Clone, Copy)] " + found[2]
-
-    return declaration.sub(derived, text)
+def with_host(text):
+    """`text` with what Rattle's prelude has for a program, where it uses it."""
+    text = re.sub(r"^fn main\((\w+): HostRuntime\)([^{]*)\{", r"fn main()\2{ let \1 = HostRuntime;", text, flags=re.M)
+    text = re.sub(r"\b(vec|e?print(?:ln)?)!(\s*[(\[]\s*(?:in\b|&?\w+\s*[;)]))", r"rattle_std::host_\1!\2", text)
+    text = re.sub(r"(?<![\w:])io::writer\b", "rattle_std::host::writer", text)
+    text = re.sub(r"(?<![\w:])std::(num|alloc)::", r"rattle_std::\1::", text)
+    code = re.sub(r"//[^\n]*", "", text)
+    used = [name for name in HOST if re.search(r"\b%s\b" % name, code) and not re.search(r"\b(?:struct|enum|trait|type) %s\b" % name, code)]
+    if "HostRuntime" in used:
+        # the methods of what `main` takes
+        used += [name for name in ("Print", "Eprint", "Input", "Alloc") if name not in used and not re.search(r"\b(?:struct|enum|trait|type) %s\b" % name, code)]
+    if not used:
+        return text
+    # behind what stands at the head for the whole file, on the line of the first item
+    head = re.match(r"(?:[ \t]*(?://[^\n]*|#!\[[^\n]*)?\n)*", text).end()
+    return text[:head] + "#[allow(unused_imports)] use rattle_std::host::{%s}; " % ", ".join(used) + text[head:]
 
 
 def to_rust(text):
     """The Rust of one .rt file."""
-    text = with_copies(without_clauses(text))
+    text = re.sub(r"^([ \t]*)#!?\[tactic\([^\]]*\)\]", r"\1", without_clauses(text), flags=re.M)
     text = re.sub(r"^mod ", "pub mod ", text, flags=re.M)
-    return re.sub(r"(?<![\w:])std::num::", "rattle_std::num::", text)
+    return with_host(text)
 
 
 def rust_of_crate(folder):
