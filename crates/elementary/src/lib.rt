@@ -15,7 +15,7 @@ mod polynomials;
 mod sine;
 mod tails;
 
-ghost use Rattle.std.specs.Prelude.{◌≡◌, length};
+ghost use Rattle.std.specs.Prelude.{◌≡◌};
 ghost use Rattle.elementary.specs.Exp.{exp_of};
 ghost use Rattle.elementary.specs.Ln.{ln_of, ln1p_by, ln1p_of};
 ghost use Rattle.elementary.specs.Atan.{atan_by, atan_of};
@@ -81,8 +81,7 @@ pub fn ln_1p(x: f64) -> f64
 }
 
 // The same with the table lent.
-pub fn ln_1p_by(points: &[f64], x: f64) -> f64
-    requires { length points.now ≡ 384 }
+pub fn ln_1p_by(points: &[f64; 384], x: f64) -> f64
     ensures { result ≡ ln1p_by points.now x }
 {
     if x >= 0.0 {
@@ -119,8 +118,7 @@ pub fn atan(x: f64) -> f64
 }
 
 // The same with the table lent.
-pub fn atan_by(points: &[f64], x: f64) -> f64
-    requires { length points.now ≡ 384 }
+pub fn atan_by(points: &[f64; 384], x: f64) -> f64
     ensures { result ≡ atan_by points.now x }
 {
     if floats::signs::is_minus(x) {
