@@ -27,7 +27,7 @@ use exponential::{exp_reduced, scaled};
 use floats::bits::bits_of;
 use logarithm::{ln_normal, ln_rest};
 use near::{log_near, place};
-use points::points;
+use points::POINTS;
 use roots::sqrt;
 use sine::sin_reduced;
 use tails::tail_beyond;
@@ -77,7 +77,7 @@ pub fn ln(x: f64) -> f64
 pub fn ln_1p(x: f64) -> f64
     ensures { result ≡ ln1p_of x }
 {
-    ln_1p_by(&points(), x)
+    ln_1p_by(&POINTS, x)
 }
 
 // The same with the table lent.
@@ -114,7 +114,7 @@ pub fn ln_1p_by(points: &[f64; 384], x: f64) -> f64
 pub fn atan(x: f64) -> f64
     ensures { result ≡ atan_of x }
 {
-    atan_by(&points(), x)
+    atan_by(&POINTS, x)
 }
 
 // The same with the table lent.
