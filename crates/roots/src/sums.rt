@@ -5,7 +5,7 @@
 // 3. Which, the leading digits tell where they lie by 3 units or more on one side of the middle's square (`sum_root`); but for one pair in 250 they do.
 // 4. Else, and where the root is no normal number, the whole sum is compared with that square (`careful`, `subnormal`).
 // Infinity's bits go the same way: they stand for 2^2098 units, from where on a root is infinite.
-ghost use Rattle.std.specs.Prelude.{◌≡◌, ◌+◌, ◌*◌, ◌/◌, ◌^◌, ◌<◌, ◌≤◌, min};
+ghost use Rattle.std.specs.Prelude.{◌≡◌, ◌+◌, ◌*◌, ◌/◌, ◌^◌, ◌<◌, ◌≤◌};
 ghost use Rattle.roots.specs.Root.{RootBits};
 ghost use Rattle.roots.specs.Patterns.{top, Fields, square_sum};
 ghost use Rattle.roots.specs.Squares.{Leading, RootBelow};
@@ -14,17 +14,14 @@ use super::digits::{LEADING, TWICE};
 use super::exact::rounded;
 use super::near::near;
 
-// The upper half of a product. The compiler makes one instruction of it.
+// Infinity's bits: what lies past the largest finite value.
+const INFINITE: u64 = 0x7ff0_0000_0000_0000;
+
+// The upper half of a product.
 fn high_product(u: u64, v: u64) -> u64
     ensures { result ≡ u * v / 2 ^ 64 }
 {
-    let lower_u = u % 0x1_0000_0000;
-    let upper_u = u / 0x1_0000_0000;
-    let lower_v = v % 0x1_0000_0000;
-    let upper_v = v / 0x1_0000_0000;
-    let t = upper_u * lower_v + lower_u * lower_v / 0x1_0000_0000;
-    let s = lower_u * upper_v + t % 0x1_0000_0000;
-    upper_u * upper_v + t / 0x1_0000_0000 + s / 0x1_0000_0000
+    (u as u128 * v as u128 >> 64) as u64
 }
 
 // The leading digits of m² + w² / 4^d, in units of 2^44: what is left out is less than 3 of them.
@@ -75,22 +72,12 @@ fn fields(b: u64) -> Number
 {
     let e = b / LEADING;
     if e == 0 {
-        return Number { m: b, e: 0 };
-    }
-    Number {
-        m: b % LEADING + LEADING,
-        e: e - 1,
-    }
-}
-
-// Past the largest finite value: infinity.
-fn clamp(r: u64) -> u64
-    ensures { result ≡ min r top }
-{
-    if r < 0x7ff0_0000_0000_0000 {
-        r
+        Number { m: b, e }
     } else {
-        0x7ff0_0000_0000_0000
+        Number {
+            m: b % LEADING + LEADING,
+            e: e - 1,
+        }
     }
 }
 
@@ -103,7 +90,7 @@ fn subnormal(p: u64, q: u64) -> u64
     if p == 0 {
         return 0;
     }
-    let z = u64::leading_zeros(p) - 11;
+    let z = p.leading_zeros() - 11;
     let r = root_below(p << z, q << z, 0);
     rounded(p, q, 0, r.c >> (z as u64 - r.k), 0)
 }
@@ -120,7 +107,8 @@ fn careful(p: u64, q: u64) -> u64
     let y = fields(q / 2);
     let d = x.e - y.e;
     let r = root_below(x.m, y.m, d);
-    clamp((x.e + r.k) * LEADING + rounded(x.m, y.m, d, r.c, r.k))
+    let bits = (x.e + r.k) * LEADING + rounded(x.m, y.m, d, r.c, r.k);
+    bits.min(INFINITE)
 }
 
 // The same, at any distance, by the leading digits where these can tell. From a field of 28 on both numbers are normal.
@@ -138,9 +126,8 @@ pub fn sum_root(p: u64, q: u64) -> u64
     if field < 28 || 2046 < field {
         return careful(p, q);
     }
-    if std::num::wrapping_sub_u64(r.base, r.test) < 0x3000_0000_0000 {
+    if r.base.wrapping_sub(r.test) < 0x3000_0000_0000 {
         return careful(p, q);
     }
-    let up = if r.base < r.test { 1u64 } else { 0u64 };
-    (field - 1) * LEADING + r.c + up
+    (field - 1) * LEADING + r.c + u64::from(r.base < r.test)
 }

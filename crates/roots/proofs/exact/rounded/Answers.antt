@@ -1,27 +1,33 @@
--- `rounded`: two numbers compared by their parts, and a tie by what is lost below it (Parts.antt).
-use Rattle.std.proofs.Common.{ℕ, ◌+◌, ◌*◌, ◌^◌, Bool, arith}
-use Rattle.roots.specs.Squares.{InParts, SumSquares, rounded_at}
-use Rattle.roots.proofs.Parts.{Rounds, rounds}
+-- `rounded`: the sum and the square of the middle, compared, and a tie by what is lost below it (Parts.antt).
+use Rattle.std.proofs.Common.{◌≡◌, ℕ, ◌+◌, ◌*◌, ◌/◌, ◌%◌, ◌^◌, eqb, ap, ◌∙◌, sym}
+use Rattle.std.proofs.lemmas.Cmp.{ranked}
+use Rattle.roots.specs.Squares.{rounded_at}
+use Rattle.roots.proofs.Parts.{Rounds, rounds, sum_is, middle_is, lost_is}
+use Rattle.roots.proofs.exact.rounded.Goals.{After-cmp, in_default-via-in-Equal+else-exact, in_default-via-in_default}
 use Rattle.roots.proofs.exact.rounded.Goals as goal
 
--- by the sum and the square of the middle
-ways : {m w d hi lo mid_hi mid_lo : ℕ} {exact : Bool} (c k : ℕ) → SumSquares m w d hi lo exact → InParts ((2 * c + 1) * (2 * c + 1) * 4 ^ k) mid_hi mid_lo → Rounds (rounded_at m w d c k) c (hi * 2 ^ 54 + lo) (mid_hi * 2 ^ 54 + mid_lo) exact
-ways {m} {w} {d} {hi} {lo} {mid_hi} {mid_lo} {exact} c k s t = rounds m w d c k (hi * 2 ^ 54 + lo) (mid_hi * 2 ^ 54 + mid_lo) exact s.same t.same s.is
+module _ (c : After-cmp) where
+  abbrev sum : ℕ
+  sum = c.square.result + c.square-small.result / 2 ^ (2 * c.args.d)
 
-pub returns-then-n-at : goal.returns-then-n-at
-returns-then-n-at c = (ways c.args.c c.args.k c.sum_squares-n.ensures c.middle-at.ensures).under (omega arith)
+  abbrev lost : ℕ
+  lost = c.square-small.result % (1 * 2 ^ (2 * c.args.d) % 2 ^ 128)
 
-pub returns-then-at-n : goal.returns-then-at-n
-returns-then-at-n c = (ways c.args.c c.args.k c.sum_squares-n.ensures c.middle-at.ensures).over (omega arith)
+  ways : Rounds (rounded_at c.args.m c.args.w c.args.d c.args.c c.args.k) c.args.c sum c.square-middle.result lost
+  ways =
+      rounds c.args.m c.args.w c.args.d c.args.c c.args.k sum c.square-middle.result lost
+      (rw (c.square.ensures, c.square-small.ensures) (sum_is c.args.m c.args.w c.args.d))
+      (c.square-middle.ensures ∙ middle_is c.args.c c.args.k c.requires.3 c.requires.4)
+      (rw c.square-small.ensures (lost_is c.args.w c.args.d c.requires.2))
 
-pub returns-then-n-at-2 : goal.returns-then-n-at-2
-returns-then-n-at-2 c = (ways c.args.c c.args.k c.sum_squares-n.ensures c.middle-at.ensures).under (omega arith)
+pub returns-in-Less : goal.returns-in-Less
+returns-in-Less c = (ways c.before).under (ranked _ _ _ (sym c.in-Less.is ∙ c.cmp.ensures))
 
-pub returns-then-at-n-2 : goal.returns-then-at-n-2
-returns-then-at-n-2 c = (ways c.args.c c.args.k c.sum_squares-n.ensures c.middle-at.ensures).over (omega arith)
+pub returns-in-Equal : goal.returns-in-Equal
+returns-in-Equal c = (ways c.before.before).tied (ranked _ _ _ (sym c.in-Equal.is ∙ c.cmp.ensures)) c.if-exact.true
 
-pub returns-then-n : goal.returns-then-n
-returns-then-n c = (ways c.args.c c.args.k c.sum_squares-n.ensures c.middle-at.ensures).tied (omega arith) c.if-n.true
-
-pub returns : goal.returns
-returns c = (ways c.args.c c.args.k c.sum_squares-n.ensures c.middle-at.ensures).past (omega arith) c.if-n.false
+pub returns-in_default : goal.returns-in_default
+returns-in_default c = elim c.in_default.branch [
+  | in_default-via-in-Equal+else-exact w ↦ (ways c.before).past (ranked _ _ _ (sym w.in-Equal.is ∙ c.cmp.ensures)) w.if-exact.false
+  | in_default-via-in_default w ↦ (ways c.before).over (ranked _ _ _ (sym w.in_default.is ∙ c.cmp.ensures))
+]

@@ -3,8 +3,8 @@ use Rattle.std.proofs.Common.{◌+◌, ◌-◌, ◌*◌, ◌^◌, ◌<◌, ◌�
 use Rattle.roots.proofs.SumBits.{rounded-most, by-fields}
 use Rattle.roots.proofs.sums.careful.Goals as goal
 
-pub overflow_add-x-2 : goal.overflow_add-x-2
-overflow_add-x-2 c =
+pub overflow_add-bits-2 : goal.overflow_add-bits-2
+overflow_add-bits-2 c =
     let x = c.fields-x.result in
     let y = c.fields-y.result in
     let r = c.root_below-r.result in
@@ -14,4 +14,4 @@ overflow_add-x-2 c =
     record { fits = bits }
 
 pub returns : goal.returns
-returns c = rw (c.clamp.ensures, c.rounded.ensures) (by-fields c.fields-x.ensures c.fields-y.ensures (omega arith) c.root_below-r.ensures)
+returns c = rw (c.min.ensures, c.rounded.ensures) (by-fields c.fields-x.ensures c.fields-y.ensures (omega arith) c.root_below-r.ensures)
