@@ -2,10 +2,10 @@
 #![tactic(auto)]
 
 mod digits;
-mod exact;
 mod lines;
 mod near;
 mod sums;
+mod two_squares;
 
 ghost use Rattle.std.specs.Prelude.{◌≡◌, ◌^◌, ◌<◌, ◌≤◌, true, ◌||◌, is_nan, to_bits};
 ghost use Rattle.std.specs.Float.{binary64};
