@@ -15,6 +15,9 @@ use super::two_squares::TwoSquares;
 // Infinity's bits: what lies past the largest finite value.
 const INFINITE: u64 = 0x7ff0_0000_0000_0000;
 
+// 3 * 2^44: from there on below the middle's square, the leading digits tell.
+const SURE: u64 = 0x3000_0000_0000;
+
 // The digits and the exponent of a number: m * 2^e units.
 #[derive(Clone, Copy)]
 struct Number {
@@ -100,7 +103,7 @@ pub fn sum_root(p: u64, q: u64) -> u64
     if field < 28 || 2046 < field {
         return careful(p, q);
     }
-    if below.base.wrapping_sub(below.test) < 0x3000_0000_0000 {
+    if below.base.wrapping_sub(below.test) < SURE {
         return careful(p, q);
     }
     (field - 1) * LEADING + below.c + u64::from(below.base < below.test)

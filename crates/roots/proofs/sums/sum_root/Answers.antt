@@ -17,6 +17,6 @@ returns c =
     let e : p / 2 ^ 53 ≡ p / 2 / 2 ^ 52 = omega arith in
     let way : ((r.below.base < r.below.test) × (c.from.result ≡ 1)) ⊎ ((r.below.test + 3 * 2 ^ 44 ≤ r.below.base) × (c.from.result ≡ 0)) = elim (side r.below.base r.below.test) [
       | inl g ↦ inl (g, rw (lt-ltb r.below.base r.below.test g) at c.from.ensures)
-      | inr g ↦ inr (omega (arith, g, c.if-below-lt52776558133248.false, c.root_below-r.ensures.few), rw (le-ltb r.below.base r.below.test g) at c.from.ensures)
+      | inr g ↦ inr (omega (arith, g, c.if-below-lt-SURE.false, c.root_below-r.ensures.few), rw (le-ltb r.below.base r.below.test g) at c.from.ensures)
     ] in
     rw e (told (p / 2) (q / 2) c.from.result (omega (arith, c.root_below-r.ensures.one)) (omega arith) (omega (arith, ltb-false)) c.root_below-r.ensures way)
