@@ -1,4 +1,0 @@
-use Rattle.elementary.proofs.exponential.scaled.Goals as goal
-
-pub returns : goal.returns
-returns c = cc
