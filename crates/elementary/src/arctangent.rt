@@ -10,6 +10,7 @@ const HALF_PI: f64 = 1.5707963267948966; // 3ff921fb54442d18
 const HALF_PI_REST: f64 = 6.123233995736766e-17; // 3c91a62633145c07
 
 // atan a beyond the table, turned back from pi/2.
+#[tactic(auto, unfolding(crate::specs::Atan::angle_far))]
 fn angle_far(a: f64) -> f64
     ensures { result ≡ angle_far a }
 {
@@ -18,6 +19,7 @@ fn angle_far(a: f64) -> f64
 }
 
 // atan a, for an a that is not below 0. The table is lent.
+#[tactic(auto, unfolding(crate::specs::Atan::atan_size))]
 pub fn atan_size(points: &[f64; 384], a: f64) -> f64
     ensures { result ≡ atan_size points.now a }
 {

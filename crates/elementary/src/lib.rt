@@ -35,6 +35,7 @@ use tails::tail_beyond;
 // +infinity above 709.782712893384, +0 below -745.1332191019412, NaN at a NaN. Error found: 0.710
 // ulp at most, 0.803 where the result is subnormal. The value comes before the tests of the range, so
 // that a loop of it has no branch.
+#[tactic(auto, unfolding(crate::specs::Exp::exp_of))]
 pub fn exp(x: f64) -> f64
     ensures { result ≡ exp_of x }
 {
@@ -51,6 +52,7 @@ pub fn exp(x: f64) -> f64
 // ln x, by x = 2^k (1 + f) with f near 0, the series in f / (2 + f), and k ln 2 in two parts.
 // -infinity at both zeros, +infinity at +infinity, NaN below 0 and at a NaN. Error found: 0.886 ulp
 // at most.
+#[tactic(auto, unfolding(crate::specs::Ln::ln_of))]
 pub fn ln(x: f64) -> f64
     ensures { result ≡ ln_of x }
 {
@@ -73,6 +75,7 @@ pub fn ln(x: f64) -> f64
 // at f = x where x is near 0; else by ln w + d / w, with w = 1 + x and d what w lost. -0 at -0, -infinity at
 // -1, +infinity at +infinity, NaN below -1 and at a NaN. Error found: 0.766 ulp at most from 0 up, 0.884
 // below.
+#[tactic(auto, unfolding(crate::specs::Ln::ln1p_of, crate::specs::Points::points))]
 pub fn ln_1p(x: f64) -> f64
     ensures { result ≡ ln1p_of x }
 {
@@ -80,6 +83,7 @@ pub fn ln_1p(x: f64) -> f64
 }
 
 // The same with the table lent.
+#[tactic(auto, unfolding(crate::specs::Ln::ln1p_by))]
 pub fn ln_1p_by(points: &[f64; 384], x: f64) -> f64
     ensures { result ≡ ln1p_by points.now x }
 {
@@ -110,6 +114,7 @@ pub fn ln_1p_by(points: &[f64; 384], x: f64) -> f64
 // The angle from -pi/2 to pi/2 whose tangent is x: turned back by the angle of the table's nearest point,
 // or beyond 2000 in size of infinity, then an odd polynomial. -0 at -0, NaN at a NaN. Error found: 0.750
 // ulp at most.
+#[tactic(auto, unfolding(crate::specs::Atan::atan_of, crate::specs::Points::points))]
 pub fn atan(x: f64) -> f64
     ensures { result ≡ atan_of x }
 {
@@ -117,6 +122,7 @@ pub fn atan(x: f64) -> f64
 }
 
 // The same with the table lent.
+#[tactic(auto, unfolding(crate::specs::Atan::atan_by))]
 pub fn atan_by(points: &[f64; 384], x: f64) -> f64
     ensures { result ≡ atan_by points.now x }
 {
@@ -129,6 +135,7 @@ pub fn atan_by(points: &[f64; 384], x: f64) -> f64
 // The sine of x: quarter turns taken off with pi/2 in four parts, then Taylor's polynomials. -0 at -0.
 // NaN beyond 1647099 in size, where the reduction ends, and at a NaN. Error found: 0.790
 // ulp at most to 256, 0.810 beyond.
+#[tactic(auto, unfolding(crate::specs::Sin::sin_of))]
 pub fn sin(x: f64) -> f64
     ensures { result ≡ sin_of x }
 {
@@ -147,6 +154,7 @@ pub struct NormalLaw {
 // The chance that the law gives a number up to x. Within 3e-16; in 0 .. 1 for a finite mean, a
 // finite variance above 0 and an x that is no NaN (specs/Bounds.antt). NaN where one of them is a NaN,
 // and for a variance below 0.
+#[tactic(auto, unfolding(crate::specs::Tails::lower_tail))]
 pub fn lower_tail(law: NormalLaw, x: f64) -> f64
     ensures { result ≡ lower_tail law x }
 {
@@ -154,6 +162,7 @@ pub fn lower_tail(law: NormalLaw, x: f64) -> f64
 }
 
 // The chance that the law gives a number beyond x. The same holds.
+#[tactic(auto, unfolding(crate::specs::Tails::upper_tail))]
 pub fn upper_tail(law: NormalLaw, x: f64) -> f64
     ensures { result ≡ upper_tail law x }
 {

@@ -28,6 +28,7 @@ const LOG: [f64; 4] = [
 ];
 
 // The row of the table that serves y, from 0 to below REACH.
+#[tactic(auto, unfolding(crate::specs::Near::place_of))]
 pub fn place(y: f64) -> usize
     requires { T (lt y reach) }
     ensures bound { result < 128 }
@@ -39,6 +40,7 @@ pub fn place(y: f64) -> usize
 }
 
 // atan t - t, for |t| to 1/32.
+#[tactic(auto, unfolding(crate::specs::Near::angle_rest))]
 pub fn angle_rest(t: f64) -> f64
     ensures { result ≡ angle_rest t }
 {
@@ -47,6 +49,7 @@ pub fn angle_rest(t: f64) -> f64
 }
 
 // atan a, a being near p, whose angle is g.
+#[tactic(auto, unfolding(crate::specs::Near::angle_near))]
 pub fn angle_near(a: f64, p: f64, g: f64) -> f64
     ensures { result ≡ angle_near a p g }
 {
@@ -55,6 +58,7 @@ pub fn angle_near(a: f64, p: f64, g: f64) -> f64
 }
 
 // ln(1 + y), y being near p^2, and g being ln(1 + p^2).
+#[tactic(auto, unfolding(crate::specs::Near::log_near))]
 pub fn log_near(y: f64, p: f64, g: f64) -> f64
     ensures { result ≡ log_near y p g }
 {

@@ -391,6 +391,7 @@ pub static POINTS: [f64; 384] = [
 ];
 
 // The table, as a copy. `POINTS` can be lent with none.
+#[tactic(auto, unfolding(crate::specs::Points::points))]
 pub fn points() -> [f64; 384]
     ensures { result ≡ points }
 {

@@ -56,6 +56,7 @@ fn clamped(t: f64) -> f64
 }
 
 // The chance that a standard normal number is beyond z, for z >= 0.
+#[tactic(auto, unfolding(crate::specs::Tails::half_tail))]
 fn half_tail(z: f64) -> f64
     ensures { result ≡ half_tail z }
 {

@@ -4,10 +4,6 @@ use lib.Ieee.{div, of_bits}
 use Rattle.elementary.proofs.exp.Goals.{then-t, else-t}
 use Rattle.elementary.proofs.exp.Goals as goal
 
-pub returns-then-t-2 : goal.returns-then-t-2
-unfolding exp_of div of_bits
-returns-then-t-2 c = rw c.if-t-2.true
-
 pub returns-else-t-2 : goal.returns-else-t-2
 unfolding exp_of div of_bits
 returns-else-t-2 c = elim c.if-t.branch [

@@ -5,7 +5,3 @@ use Rattle.elementary.proofs.near.place.Goals as goal
 
 pub float_to_bits-b : goal.float_to_bits-b
 float_to_bits-b c = may-be-asked _ c.requires
-
-pub returns-clause-value : goal.returns-clause-value
-unfolding place_of
-returns-clause-value c = search rules
