@@ -1,5 +1,5 @@
 -- How the sum of two squares m² + w² / 4 ^ d compares with the square of a middle (`rounds`), both four times as large: what moving the second square down loses tells a tie. Assumes nothing.
-use Rattle.std.proofs.Common.{◌≡◌, ℕ, ◌+◌, ◌-◌, ◌*◌, ◌/◌, ◌%◌, ◌^◌, ◌<◌, ◌≤◌, ◌≢◌, sym, ap, ◌∙◌, inl, inr, mul-le-mul_right, mod-lt, div-add-mod', add-one, arith, lit<, pow-add, shl_exact}
+use Rattle.std.proofs.Common.{◌≡◌, ℕ, ◌+◌, ◌*◌, ◌/◌, ◌%◌, ◌^◌, ◌<◌, ◌≤◌, ◌≢◌, sym, ap, ◌∙◌, inl, inr, mul-le-mul_right, mod-lt, div-add-mod', add-one, arith, lit<, pow-add, shl_exact}
 use Prim.Native.Nat.{Ordering}
 use lib.Ieee.{nearest}
 use Rattle.roots.specs.Squares.{squares, rounded_at}

@@ -3,9 +3,6 @@ use Rattle.std.proofs.Common.{le_of_lt, mul-le-mul_left, arith}
 use Rattle.roots.proofs.Division.{digits-below}
 use Rattle.roots.proofs.digits.root.Goals as goal
 
-pub overflow_add-result : goal.overflow_add-result
-overflow_add-result c = omega (arith, digits-below (omega (arith, c.requires)) c.near-r.ensures)
-
 pub returns-then-r : goal.returns-then-r
 returns-then-r c = let n = c.near-r.ensures in record { low = omega (arith, n.apart, c.if-r.true); high = omega (arith, n.high) }
 

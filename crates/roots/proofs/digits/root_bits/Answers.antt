@@ -1,4 +1,4 @@
-use Rattle.std.proofs.Common.{◌≡◌, ◌+◌, ◌*◌, ◌/◌, ◌%◌, ◌^◌, ℕ, inl, inr, le_of_lt, arith}
+use Rattle.std.proofs.Common.{◌≡◌, ◌+◌, ◌*◌, ◌/◌, ◌%◌, ◌^◌, inl, inr, le_of_lt, arith}
 use native.Mathlib.Nat.{max-eq_left, max-eq_right}
 use Rattle.roots.proofs.Assemble.{shared, written}
 use Rattle.roots.proofs.Squares.{side}

@@ -3,7 +3,7 @@ use Rattle.std.proofs.Common.{◌≡◌, ℕ, ◌+◌, ◌*◌, ◌/◌, ◌%◌
 use lib.Bits.{bit_or, bit_xor}
 use Rattle.roots.specs.Lines.{Good}
 use Rattle.roots.proofs.LineLaws.{line_at, Inside, line-inside}
-use Rattle.roots.proofs.Guess.{turned-below, marked, guess_of, sum-range, guess-is-good}
+use Rattle.roots.proofs.Guess.{marked, guess_of, sum-range, guess-is-good}
 use Rattle.roots.proofs.near.guess.Goals as goal
 
 -- past the entry of the table
@@ -32,14 +32,8 @@ module _ (c : goal.After-line-l) where
   sum : u + 4 * (bit_xor n 1 * 4 / u) < 2 ^ 34
   sum = rw line (sum-range n from below).1
 
-pub overflow_mul-u : goal.overflow_mul-u
-overflow_mul-u c = omega (arith, (range c).most)
-
 pub overflow_add-u : goal.overflow_add-u
 overflow_add-u c = omega (arith, (range c).most)
-
-pub overflow_mul-q : goal.overflow_mul-q
-overflow_mul-q c = omega (arith, turned-below (n c) (from c) (below c))
 
 pub nonzero_div-q : goal.nonzero_div-q
 nonzero_div-q c = omega (arith, (range c).from)

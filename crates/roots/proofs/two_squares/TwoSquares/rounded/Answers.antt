@@ -1,5 +1,5 @@
 -- `rounded`: the sum and the square of the middle, compared, and a tie by what is lost below it (Parts.antt).
-use Rattle.std.proofs.Common.{◌≡◌, ℕ, ◌+◌, ◌*◌, ◌/◌, ◌%◌, ◌^◌, eqb, ap, ◌∙◌, sym}
+use Rattle.std.proofs.Common.{ℕ, ◌+◌, ◌*◌, ◌/◌, ◌%◌, ◌^◌, ◌∙◌, sym}
 use Rattle.std.proofs.lemmas.Cmp.{ranked}
 use Rattle.roots.specs.Squares.{rounded_at}
 use Rattle.roots.proofs.Parts.{Rounds, rounds, sum_is, middle_is, lost_is}
