@@ -60,14 +60,11 @@ module _ (n g : ℕ) (good : Good n g) where
   parts : b * wide + rest ≡ left * 2 ^ 25
   parts = div-add-mod' (left * 2 ^ 25) wide
 
-  pub rest_below : rest < wide
+  rest_below : rest < wide
   rest_below = mod-lt (left * 2 ^ 25) (omega arith)
 
   pub quotient-below : b < 3 * 2 ^ 25
   quotient-below = lt_of_mul-lt-mul_right wide (omega (arith, parts, left_below))
-
-  pub test_below : (b * (3 * 2 ^ 25 - 1 - b) < 9 * 2 ^ 48) × (test b rest < 2 ^ 55)
-  test_below = let p = product-below b quotient-below in (p, omega (arith, p, rest_below, good.below))
 
   pub root-is-near : NearBelow n (a * 2 ^ 25 + b) (a * 2 ^ 25) (test b rest)
   root-is-near = near-below n a b left rest some (rw one parts) (rw one rest_below) quotient-below (rw one good.from)

@@ -5,7 +5,7 @@ pub mod Division
 pub mod Leading
 pub mod Ladder
 pub mod Rounding
-pub mod Parts
+pub mod Compared
 pub mod Steps
 pub mod Window
 pub mod Assemble

@@ -1,8 +1,8 @@
--- `rounded`: the sum and the square of the middle, compared, and a tie by what is lost below it (Parts.antt).
+-- `rounded`: the sum and the square of the middle, compared, and a tie by what is lost below it (Compared.antt).
 use Rattle.std.proofs.Common.{ℕ, ◌+◌, ◌*◌, ◌/◌, ◌%◌, ◌^◌, ◌∙◌, sym}
 use Rattle.std.proofs.lemmas.Cmp.{ranked}
 use Rattle.roots.specs.Squares.{rounded_at}
-use Rattle.roots.proofs.Parts.{Rounds, rounds, sum_is, middle_is, lost_is}
+use Rattle.roots.proofs.Compared.{Rounds, rounds, sum_is, middle_is, lost_is}
 use Rattle.roots.proofs.two_squares.TwoSquares.rounded.Goals.{After-cmp, in_default-via-in-Equal+else-exact, in_default-via-in_default}
 use Rattle.roots.proofs.two_squares.TwoSquares.rounded.Goals as goal
 
