@@ -152,6 +152,7 @@ fn replay_function(
 {
     let mut met: usize = 0;
     let mut k = from;
+    // kept as a count: words past the end are 0, so the vectors are no run that chunks walk
     for _vector in 0..count {
         let v = Vector::read(function, words, k);
         if v.is_met() {

@@ -1,4 +1,4 @@
--- `hypot`: the larger and the smaller pattern, by the two tests, and `hypot-at`, which is the same for either order.
+-- `hypot`: the larger and the smaller pattern, and `hypot-at`, which is the same for either order.
 use Rattle.std.proofs.Common.{◌≡◌, ℕ, ◌*◌, ◌/◌, ◌%◌, ◌^◌, ◌≤◌, false, T, ◌⊎◌, sym, ap, ◌∙◌, subst, inl, inr, arith, le_of_lt, max, min}
 use native.Mathlib.Nat.{max-eq_left, max-eq_right, min-eq_left, min-eq_right}
 use lib.Ieee.{Float, binary64, fits, is_nan, to_bits}
@@ -17,10 +17,6 @@ doubled x = to_bits binary64 x * 2 % 2 ^ 64
 within : (x : Float) → T (fits binary64 x) → is_nan x ≡ false → doubled x ≤ 2 * top
 within x held number = omega (arith, number-below x held number)
 
--- in either order
-abbrev Chosen : ℕ → ℕ → ℕ → ℕ → Type 0
-Chosen p q large small = ((large ≡ q) × (small ≡ p) × (p ≤ q)) ⊎ ((large ≡ p) × (small ≡ q) × (q ≤ p))
-
 module _ (x y : Float) (held-x : T (fits binary64 x)) (held-y : T (fits binary64 y)) (number-x : is_nan x ≡ false) (number-y : is_nan y ≡ false) where
   abbrev p : ℕ
   p = doubled x
@@ -34,29 +30,23 @@ module _ (x y : Float) (held-x : T (fits binary64 x)) (held-y : T (fits binary64
       let f : to_bits binary64 y % 2 ^ 63 ≡ q / 2 = omega arith in
       rw (e, f) at (hypot-at x y held-x held-y number-x number-y)
 
-  root-of : (large small : ℕ) → Chosen p q large small → hypot_of x y ≡ root_of (square_sum (large / 2) (small / 2))
-  root-of large small h = elim h [
-    | inl e ↦ root ∙ ap root_of (squares-swap (p / 2) (q / 2)) ∙ rw (e.0, e.1)
-    | inr e ↦ root ∙ rw (e.0, e.1)
+  root-of : hypot_of x y ≡ root_of (square_sum (max p q / 2) (min p q / 2))
+  root-of = elim (side p q) [
+    | inl h ↦ root ∙ ap root_of (squares-swap (p / 2) (q / 2)) ∙ rw (max-eq_right (le_of_lt h), min-eq_left (le_of_lt h))
+    | inr h ↦ root ∙ rw (max-eq_left h, min-eq_right h)
   ]
 
-  ordered : (large small : ℕ) → Chosen p q large small → (small ≤ large) × (large ≤ 2 * top)
-  ordered large small h = elim h [
-    | inl e ↦ (omega (arith, e), omega (arith, e, within y held-y number-y))
-    | inr e ↦ (omega (arith, e), omega (arith, e, within x held-x number-x))
+  ordered : (min p q ≤ max p q) × (max p q ≤ 2 * top)
+  ordered = elim (side p q) [
+    | inl h ↦ rw (max-eq_right (le_of_lt h), min-eq_left (le_of_lt h)) (le_of_lt h, within y held-y number-y)
+    | inr h ↦ rw (max-eq_left h, min-eq_right h) (h, within x held-x number-x)
   ]
-
-chosen : (p q : ℕ) → Chosen p q (max p q) (min p q)
-chosen p q = elim (side p q) [
-  | inl h ↦ let l = le_of_lt h in inl (max-eq_right l, min-eq_left l, l)
-  | inr h ↦ inr (max-eq_left h, min-eq_right h, h)
-]
 
 pub sum_root-requires : goal.sum_root-requires
-sum_root-requires c = rw (c.max.ensures, c.min.ensures) (ordered c.args.x c.args.y (subst T (sym c.well_formed.0.1) tt) (subst T (sym c.well_formed.1.0.1) tt) (sym c.is_nan.ensures.value ∙ c.if-is_nan.false) (sym c.is_nan-else-is_nan.ensures.value ∙ c.if-is_nan-2.false) _ _ (chosen (doubled c.args.x) (doubled c.args.y)))
+sum_root-requires c = rw (c.max.ensures, c.min.ensures) (ordered c.args.x c.args.y (subst T (sym c.well_formed.0.1) tt) (subst T (sym c.well_formed.1.0.1) tt) (sym c.is_nan.ensures.value ∙ c.if-is_nan.false) (sym c.is_nan-else-is_nan.ensures.value ∙ c.if-is_nan-2.false))
 
 pub float_from_bits-result : goal.float_from_bits-result
 float_from_bits-result c = known c.sum_root.result c.sum_root.ensures.number
 
 pub returns : goal.returns
-returns c = c.sum_root.ensures.value ∙ rw (c.max.ensures, c.min.ensures) (sym (root-of c.args.x c.args.y (subst T (sym c.well_formed.0.1) tt) (subst T (sym c.well_formed.1.0.1) tt) (sym c.is_nan.ensures.value ∙ c.if-is_nan.false) (sym c.is_nan-else-is_nan.ensures.value ∙ c.if-is_nan-2.false) _ _ (chosen (doubled c.args.x) (doubled c.args.y))))
+returns c = c.sum_root.ensures.value ∙ rw (c.max.ensures, c.min.ensures) (sym (root-of c.args.x c.args.y (subst T (sym c.well_formed.0.1) tt) (subst T (sym c.well_formed.1.0.1) tt) (sym c.is_nan.ensures.value ∙ c.if-is_nan.false) (sym c.is_nan-else-is_nan.ensures.value ∙ c.if-is_nan-2.false)))
