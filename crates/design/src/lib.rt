@@ -27,19 +27,16 @@ use roots::sqrt;
 // A matrix of k rows and columns, in the first k rows and columns of the largest; +0 stands beyond.
 pub type Matrix = [[f64; MAX_COLUMNS]; MAX_COLUMNS];
 
-// Whether all pivots hold, or the first column whose pivot fails. A pivot that is NaN holds.
-#[derive(Clone, Copy)]
-pub enum Pivots {
-    Hold,
-    Fails(usize),
-}
+// The first column whose pivot fails. A pivot that is NaN holds.
+#[derive(Clone, Copy, Debug, PartialEq, Eq)]
+pub struct FailedPivot(pub usize);
 
 const TOLERANCE: f64 = 1e-12;
 
 const LEAST_NORMAL: f64 = 2.2250738585072014e-308; // 2^-1022
 
 // The Cholesky factor of X'X by rows, as far as the pivots hold; +0 in the rows beyond.
-pub fn factor(columns: &[f64], size: SheetSize, l: &mut Matrix) -> Pivots
+pub fn factor(columns: &[f64], size: SheetSize, l: &mut Matrix) -> Result<(), FailedPivot>
     requires { Design size columns.now }
     ensures value { result ≡ pivots_of columns.now size.rows size.columns }
     ensures l_after { l.new ≡ factor_of columns.now size.rows (rows_made size.columns (pivots_of columns.now size.rows size.columns)) }
@@ -52,12 +49,12 @@ pub fn factor(columns: &[f64], size: SheetSize, l: &mut Matrix) -> Pivots
         let square = traces::column_products(columns, columns, n, i, i);
         let pivot = square - cholesky::products(&row, &row, i);
         if pivot <= TOLERANCE * max(square, LEAST_NORMAL) {
-            return Pivots::Fails(i);
+            return Err(FailedPivot(i));
         }
         row[i] = sqrt(pivot);
         l[i] = row;
     }
-    Pivots::Hold
+    Ok(())
 }
 
 // (X'X)^-1 = L^-T L^-1 from the factor L of k columns.
@@ -117,25 +114,25 @@ pub fn normal_law(columns: &[f64], size: SheetSize, inverse: Matrix) -> NormalLa
     traces::law_in(columns, size, &inverse, &mut room)
 }
 
-// Whether the law serves, or why not: its mean or its variance is not finite, or its variance is not above 0.
-#[derive(Clone, Copy)]
-pub enum LawAnswer {
-    Usable(NormalLaw),
+// Why a law does not serve: its mean or its variance is not finite, or its variance is not above 0.
+#[derive(Clone, Copy, Debug, PartialEq, Eq)]
+pub enum LawError {
     NotFinite,
     NotSpread,
 }
 
-pub fn check_law(law: NormalLaw) -> LawAnswer
+// The law, where it serves.
+pub fn check_law(law: NormalLaw) -> Result<NormalLaw, LawError>
     ensures { result ≡ law_answer law }
 {
     if !is_finite(law.mean) {
-        return LawAnswer::NotFinite;
+        return Err(LawError::NotFinite);
     }
     if !is_finite(law.variance) {
-        return LawAnswer::NotFinite;
+        return Err(LawError::NotFinite);
     }
     if 0.0 < law.variance {
-        return LawAnswer::Usable(law);
+        return Ok(law);
     }
-    LawAnswer::NotSpread
+    Err(LawError::NotSpread)
 }
