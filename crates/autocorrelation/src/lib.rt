@@ -31,6 +31,7 @@ fn sum_squared_differences(e: &[f64]) -> f64
 }
 
 // Durbin and Watson's d, the statistic that R's `lmtest::dwtest` reports.
+#[tactic(auto, unfolding(crate::specs::Statistic::durbin_watson_answer))]
 pub fn durbin_watson(residuals: &[f64]) -> Result<f64, StatisticError>
     ensures value { result ≡ durbin_watson_answer residuals.now }
     ensures told { Told result residuals.now }

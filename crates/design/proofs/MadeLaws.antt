@@ -1,5 +1,5 @@
 -- Arrays that `array::from_fn` makes, by a closure that each call leaves as it was. Assumes nothing.
-use mathlib.Core.Path.{◌≡◌, refl, sym, ◌∙◌, subst}
+use mathlib.Core.Path.{◌≡◌, sym, ◌∙◌, subst}
 use mathlib.Core.Bool.{cond}
 use mathlib.Core.List.{List}
 use Prim.Native.Nat.{ℕ, zero, suc, ◌+◌, ◌≤◌, ◌<◌}
@@ -21,8 +21,8 @@ module _ {F B : Type 0} (g : Mut F (ℕ × Unit {0}) B) (P : ℕ → B → Type 
   each_from i (suc n) h j a b =
       let here : (h.0 ≡ f) × P i h.1 = acts i h.1 h.0 h.3 in
       elim (ℕ_discrete j i) [
-        yes e ↦ rw (e, h.2.1 d) here.1
-      | no e ↦ each_from (i + 1) n (subst (λ (q : F). IsFromFnResultFrom g q ys (i + 1) n) here.0 h.4) j (omega arith) (omega arith)
+        | yes e ↦ rw (e, h.2.1 d) here.1
+        | no e ↦ each_from (i + 1) n (subst (λ (q : F). IsFromFnResultFrom g q ys (i + 1) n) here.0 h.4) j (omega arith) (omega arith)
       ]
 
   -- what each call gives stands at its index

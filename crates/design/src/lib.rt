@@ -8,11 +8,12 @@ mod lower;
 mod tables;
 mod traces;
 
-ghost use Rattle.std.specs.Prelude.{◌≡◌, ◌≤◌, length};
+ghost use Rattle.std.specs.Prelude.{◌≡◌, ◌≤◌, ◌<◌, length};
+ghost use Rattle.std.specs.Float.Ieee.Scale.{finite};
 ghost use Rattle.floats.specs.Words.{◌‼◌};
 ghost use Rattle.floats.specs.Tables.{table};
 ghost use Rattle.floats.specs.Limits.{max_columns};
-ghost use Rattle.design.specs.Matrix.{finite_matrix};
+ghost use Rattle.design.specs.Matrix.{entry, every, finite_matrix};
 ghost use Rattle.design.specs.Factor.{pivots_of, factor_of, rows_made};
 ghost use Rattle.design.specs.Inverse.{inverse_from};
 ghost use Rattle.design.specs.Difference.{difference_at};
@@ -59,6 +60,7 @@ pub fn factor(sheet: Sheet, l: &mut Matrix) -> Result<(), FailedPivot>
 }
 
 // (X'X)^-1 = L^-T L^-1 from the factor L of k columns.
+#[tactic(auto, unfolding(crate::specs::Inverse::inverse_from))]
 pub fn inverse_of_factor(l: Matrix, k: usize) -> Matrix
     requires { k ≤ max_columns }
     ensures { result ≡ inverse_from l k }
@@ -66,12 +68,20 @@ pub fn inverse_of_factor(l: Matrix, k: usize) -> Matrix
     lower::square(&lower::lower_inverse(&l, k), k)
 }
 
+// Whether each entry of row i of the inverse is finite.
+fn row_is_finite(inverse: &Matrix, k: usize, i: usize) -> bool
+    requires { (i < max_columns) × (k ≤ max_columns) }
+    ensures { result ≡ every k (λ j. finite (entry inverse.now i j)) }
+{
+    (0..k).all(|j| is_finite(inverse[i][j]))
+}
+
 // Whether each entry of the inverse is finite.
 pub fn inverse_is_finite(inverse: Matrix, k: usize) -> bool
     requires { k ≤ max_columns }
     ensures { result ≡ finite_matrix k inverse }
 {
-    (0..k).all(|i| (0..k).all(|j| is_finite(inverse[i][j])))
+    (0..k).all(|i| row_is_finite(&inverse, k, i))
 }
 
 // A v for the difference matrix A: diagonal 1, 2, .., 2, 1 and -1 beside it.

@@ -25,11 +25,13 @@ pub fn row<F: Fn(usize) -> f64>(k: usize, number: F) -> [f64; MAX_COLUMNS]
     requires { (j : ℕ) → j < k → F.pre number j }
     ensures { (f : ℕ → Float) → ((j : ℕ) (x : Float) → j < k → F.post number j x → x ≡ f j) → result ≡ row k f }
 {
-    array::from_fn(|j| -> f64
-        requires { j < k → F.pre number j }
-        ensures first { j < k → F.post number j result }
-        ensures beyond { k ≤ j → result ≡ plus_zero }
-    { if j < k { number(j) } else { 0.0 } })
+    array::from_fn(
+        |j| -> f64
+            requires { j < k → F.pre number j }
+            ensures first { j < k → F.post number j result }
+            ensures beyond { k ≤ j → result ≡ plus_zero }
+        { if j < k { number(j) } else { 0.0 } },
+    )
 }
 
 // The matrix with these entries in its first k rows and columns, and +0 beyond.
@@ -37,18 +39,23 @@ pub fn matrix<F: Fn(usize, usize) -> f64>(k: usize, entry: F) -> Matrix
     requires { (i j : ℕ) → i < k → j < k → F.pre entry i j }
     ensures { (f : ℕ → ℕ → Float) → ((i j : ℕ) (x : Float) → i < k → j < k → F.post entry i j x → x ≡ f i j) → result ≡ matrix k f }
 {
-    array::from_fn(|i| -> [f64; MAX_COLUMNS]
-        requires { i < k → (j : ℕ) → j < k → F.pre entry i j }
-        ensures first { i < k → (f : ℕ → Float) → ((j : ℕ) (x : Float) → j < k → F.post entry i j x → x ≡ f j) → result ≡ row k f }
-        ensures beyond { k ≤ i → result ≡ zero_row }
-    {
-        if i < k {
-            row(k, |j| -> f64
-                requires { F.pre entry i j }
-                ensures { F.post entry i j result }
-            { entry(i, j) })
-        } else {
-            [0.0; MAX_COLUMNS]
-        }
-    })
+    array::from_fn(
+        |i| -> [f64; MAX_COLUMNS]
+            requires { i < k → (j : ℕ) → j < k → F.pre entry i j }
+            ensures first { i < k → (f : ℕ → Float) → ((j : ℕ) (x : Float) → j < k → F.post entry i j x → x ≡ f j) → result ≡ row k f }
+            ensures beyond { k ≤ i → result ≡ zero_row }
+        {
+            if i < k {
+                row(
+                    k,
+                    |j| -> f64
+                        requires { F.pre entry i j }
+                        ensures { F.post entry i j result }
+                    { entry(i, j) },
+                )
+            } else {
+                [0.0; MAX_COLUMNS]
+            }
+        },
+    )
 }

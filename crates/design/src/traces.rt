@@ -78,7 +78,7 @@ fn law_by(b: f64, c: f64, bb: f64, size: SheetSize) -> NormalLaw
 
 // The law of the columns; A X stands in room for ROOM numbers on the stack.
 pub fn law_with<const ROOM: usize>(sheet: Sheet, inverse: &Matrix) -> NormalLaw
-    requires { length sheet.run.now ≤ ROOM }
+    requires { (length sheet.run.now ≤ ROOM) × (ROOM ≤ max_columns * max_rows) }
     ensures { result ≡ law_from sheet.entry.run.now sheet.entry.size.rows sheet.entry.size.columns inverse.now }
 {
     let size = sheet.size;

@@ -1,4 +1,4 @@
-use Rattle.std.proofs.Common.{ℕ, ◌≡◌, refl, arith}
+use Rattle.std.proofs.Common.{◌≡◌, refl, arith}
 use lib.Ieee.{neg, of_bits}
 use native.Mathlib.Numerals.{add-one}
 use Rattle.floats.specs.Sums.{sum_of}
