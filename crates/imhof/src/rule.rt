@@ -1,8 +1,8 @@
 // The Gauss-Kronrod rule of 7 and 15 points.
-ghost use Rattle.std.specs.Prelude.{◌≡◌, [], ◌∷◌, ◌++◌, length};
+ghost use Rattle.std.specs.Prelude.{◌≡◌, ◌&&◌, [], ◌∷◌, ◌++◌, length};
 ghost use Rattle.elementary.specs.Points.{points};
 ghost use Rattle.imhof.specs.Integrand.{integrand_of};
-ghost use Rattle.imhof.specs.Parts.{left_half, right_half};
+ghost use Rattle.imhof.specs.Parts.{finite_part, left_half, right_half};
 ghost use Rattle.imhof.specs.Rule.{gk15_of, middle_of, points_of, rule_of};
 
 use super::Part;
@@ -12,6 +12,15 @@ use integrand::integrands;
 pub struct Halves {
     pub left: Part,
     pub right: Part,
+}
+
+impl Halves {
+    // Whether both are.
+    pub fn are_finite(self) -> bool
+        ensures { result ≡ finite_part self.left && finite_part self.right }
+    {
+        self.left.is_finite() && self.right.is_finite()
+    }
 }
 
 // How many points the rule has.
