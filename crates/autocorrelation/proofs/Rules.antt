@@ -15,10 +15,9 @@ use lib.IntN.{ℤ, nat_abs, ◌-ℤ◌}
 use lib.Ieee.{Float, eq}
 use lib.Ieee.Scale.{finite}
 use lib.Ieee.Fits.{and_l, and_r}
+use Rattle.std.specs.Prelude.{Option, Some, None}
 use Rattle.floats.specs.Words.{◌‼◌, plus_zero}
 use Rattle.floats.specs.Search.{first_bad}
-use Rattle.floats.specs.declared.search.Found.{Found}
-use Rattle.floats.specs.declared.search.Found.TheVariants.{At, Nothing}
 use Rattle.floats.proofs.FirstLaws.{none-at}
 use Rattle.autocorrelation.specs.declared.Statistic.{Statistic}
 use Rattle.autocorrelation.specs.declared.Statistic.TheVariants.{Value, Empty, Single, NotFinite, ZeroSum, Overflow}
@@ -46,13 +45,13 @@ wider {lo} {hi} {low} {high} {a} h g r = record { from = go r.from; up_to = le_t
     go (inr l) = inr (le_trans h l)
 
 -- ---- an accepted run
-pub all-finite : (e : List Float) → first_bad e ≡ Nothing → (t : ℕ) → t < length e → T (finite (e ‼ t))
+pub all-finite : (e : List Float) → first_bad e ≡ None → (t : ℕ) → t < length e → T (finite (e ‼ t))
 unfolding first_bad
 all-finite e h t g = subst T (sym (not-false (finite (e ‼ t)) (none-at (λ t. not (finite (e ‼ t))) (length e) t h g))) tt
 
 pub record Accepted (e : List Float) (d : Float) : Type 0 where
   pub many : 2 ≤ length e
-  pub numbers : first_bad e ≡ Nothing
+  pub numbers : first_bad e ≡ None
   pub some : eq (squares e) plus_zero ≡ false
   pub below : finite (squares e) ≡ true
   pub above : finite (differences e) ≡ true
@@ -74,9 +73,9 @@ past : (b : Bool) (x y : Statistic) (d : Float) → is_value x ≡ 0 → cond b 
 past true x y d p h = absurd (refused x d p h)
 past false x y d p h = (refl, h)
 
-unfound : (f : Found) (e : List Float) (d : Float) → of_found f e ≡ Value d → f ≡ Nothing
-unfound Nothing e d h = refl
-unfound (At t) e d h = absurd (refused (NotFinite t) d refl h)
+unfound : (f : Option ℕ) (e : List Float) (d : Float) → of_found f e ≡ Value d → f ≡ None
+unfound None e d h = refl
+unfound (Some t) e d h = absurd (refused (NotFinite t) d refl h)
 
 both : (a b : Bool) (x y : Statistic) (d : Float) → is_value y ≡ 0 → cond (a && b) x y ≡ Value d → (a ≡ true) × (b ≡ true) × (x ≡ Value d)
 both true true x y d p h = (refl, refl, h)
@@ -88,7 +87,7 @@ unfolding durbin_watson_answer
 accepted e d h =
     let a = past _ Empty _ d refl h in
     let b = past _ Single _ d refl a.1 in
-    let none : first_bad e ≡ Nothing = unfound (first_bad e) e d b.1 in
+    let none : first_bad e ≡ None = unfound (first_bad e) e d b.1 in
     let c = past _ ZeroSum _ d refl (rw none at b.1) in
     let v = both _ _ _ Overflow d refl c.1 in
     record {

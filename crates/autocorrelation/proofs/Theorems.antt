@@ -13,9 +13,9 @@ use lib.Ieee.{Float, binary64, eq, le, fits, of_bits}
 use lib.Ieee.Exact.{HasValue}
 use lib.Ieee.Order.{le_of_values}
 use lib.Ieee.Scale.{finite}
+use Rattle.std.specs.Prelude.{None}
 use Rattle.floats.specs.Words.{◌‼◌, plus_zero}
 use Rattle.floats.specs.Search.{first_bad}
-use Rattle.floats.specs.declared.search.Found.TheVariants.{Nothing}
 use Rattle.floats.specs.Held.{held?}
 use Rattle.floats.specs.Limits.{max_rows}
 use Rattle.floats.proofs.HeldLaws.{all-at}
@@ -37,11 +37,11 @@ narrow : Window (2 ^ 802) (2 ^ 1295)
 narrow = record { half = 2 ^ 801; top = 2 ^ 1525; bottom = 2 ^ 529; halves = lit≤ tt; normal = lit≤ tt; under = lit< tt; short = lit< tt; total = lit≤ tt; above = lit≤ tt; fine = lit≤ tt; below = lit≤ tt; room = lit< tt; some = lit< tt }
 
 -- ---- of the definition, where binary64 holds the run
-numbers : (e : List Float) → T (held? e) → first_bad e ≡ Nothing → (t : ℕ) → t < length e → Number (e ‼ t)
+numbers : (e : List Float) → T (held? e) → first_bad e ≡ None → (t : ℕ) → t < length e → Number (e ‼ t)
 numbers e h f t g = number (e ‼ t) (all-finite e f t g) (all-at (length e) (λ t. fits binary64 (e ‼ t)) t h g)
 
 -- THE BOUND, where every number and every exact difference of neighbours is 0 or from 2^-250 to 2^250 in size: such a run's statistic does not overflow
-pub statistic-accurate : (e : List Float) → 2 ≤ length e → length e ≤ 256 → T (held? e) → first_bad e ≡ Nothing → eq (squares e) plus_zero ≡ false
+pub statistic-accurate : (e : List Float) → 2 ≤ length e → length e ≤ 256 → T (held? e) → first_bad e ≡ None → eq (squares e) plus_zero ≡ false
     → T (numbers_sized? 250 e) → T (differences_sized? 250 e) → Accurate (length e) (durbin_watson e) (exact_differences e) (exact_squares e)
 statistic-accurate e a b h f s p q =
     accurate (2 ^ 824) (2 ^ 1324) wide e (length e) a b (numbers e h f)
@@ -49,7 +49,7 @@ statistic-accurate e a b h f s p q =
     (λ (t : ℕ) (g : t < length e - 1). among 250 (exact_difference e t) (all-at (length e - 1) (λ t. sized? 250 (exact_difference e t)) t q g)) s
 
 -- the same with no rule on differences, where every number is 0 or from 2^-220 to 2^220 in size
-pub statistic-accurate-narrow : (e : List Float) → 2 ≤ length e → length e ≤ 256 → T (held? e) → first_bad e ≡ Nothing → eq (squares e) plus_zero ≡ false
+pub statistic-accurate-narrow : (e : List Float) → 2 ≤ length e → length e ≤ 256 → T (held? e) → first_bad e ≡ None → eq (squares e) plus_zero ≡ false
     → T (numbers_sized? 220 e) → Accurate (length e) (durbin_watson e) (exact_differences e) (exact_squares e)
 statistic-accurate-narrow e a b h f s p =
     accurate (2 ^ 802) (2 ^ 1295) narrow e (length e) a b (numbers e h f) (λ (t : ℕ) (g : t < length e). wider (lit≤ tt) (lit≤ tt) (size t g))

@@ -1,14 +1,12 @@
 -- The Durbin-Watson statistic of a run of residuals e, and what `durbin_watson` answers, or why there is none (Durbin and Watson 1950).
 -- A run is a list of binary64 values, numbered from 0; ⊖, ⊗ and ⊘ round once, and sums run first to last from -0 (crate floats).
 -- Definitions only. Assumes nothing.
-use Rattle.std.specs.Prelude.{◌+◌, ◌-◌, cond, ◌&&◌, List, length, eqb, Float}
+use Rattle.std.specs.Prelude.{ℕ, ◌+◌, ◌-◌, cond, ◌&&◌, List, length, eqb, Float, Option, Some, None}
 use Rattle.std.specs.Float.Ieee.{eq}
 use Rattle.std.specs.Float.Ieee.Scale.{finite}
 use Rattle.floats.specs.Words.{◌⊖◌, ◌⊘◌, ◌‼◌, plus_zero, square_of}
 use Rattle.floats.specs.Sums.{sum_of, sum_squares}
 use Rattle.floats.specs.Search.{first_bad}
-use Rattle.floats.specs.declared.search.Found.{Found}
-use Rattle.floats.specs.declared.search.Found.TheVariants.{At, Nothing}
 use Rattle.autocorrelation.specs.declared.Statistic.{Statistic}
 use Rattle.autocorrelation.specs.declared.Statistic.TheVariants.{Value, Empty, Single, NotFinite, ZeroSum, Overflow}
 
@@ -25,9 +23,9 @@ abbrev pub durbin_watson : List Float → Float
 durbin_watson e = differences e ⊘ squares e
 
 -- of two residuals or more, the first that is not finite being found or not
-abbrev pub of_found : Found → List Float → Statistic
-of_found (At t) e = NotFinite t
-of_found Nothing e =
+abbrev pub of_found : Option ℕ → List Float → Statistic
+of_found (Some t) e = NotFinite t
+of_found None e =
     cond (eq (squares e) plus_zero) ZeroSum
     (cond (finite (squares e) && finite (differences e)) (Value (durbin_watson e)) Overflow)
 

@@ -5,7 +5,6 @@ ghost use Rattle.std.specs.Prelude.{◌≡◌, ◌≤◌, length};
 ghost use Rattle.autocorrelation.specs.Statistic.{differences, durbin_watson_answer};
 ghost use Rattle.autocorrelation.specs.Bound.{Told};
 
-use floats::search::Found;
 
 // The statistic, or why there is none: no residual; only one; the first that is not finite, with its place; squares that sum to 0 as
 // computed; a sum that is not finite.
@@ -44,7 +43,7 @@ pub fn durbin_watson(residuals: &[f64]) -> Statistic
     if residuals.len() == 1 {
         return Statistic::Single;
     }
-    if let Found::At(t) = floats::search::first_bad(residuals) {
+    if let Some(t) = floats::search::first_bad(residuals) {
         return Statistic::NotFinite(t);
     }
     let squares = floats::sums::sum_squares(residuals);

@@ -8,10 +8,9 @@ use lib.Dec.{ltb, eqb}
 use lib.ListN.{length}
 use lib.Ieee.{Float}
 use borrow.Author.Tests.{ltb-false, eqb-true, eqb-false}
+use Rattle.std.specs.Prelude.{Option, Some, None}
 use Rattle.floats.specs.Limits.{max_rows, max_columns}
 use Rattle.floats.specs.Search.{first_bad}
-use Rattle.floats.specs.declared.search.Found.{Found}
-use Rattle.floats.specs.declared.search.Found.TheVariants.{At, Nothing}
 use Rattle.columns.specs.declared.SheetSize.{SheetSize}
 use Rattle.columns.specs.declared.SizeAnswer.{SizeAnswer}
 use Rattle.columns.specs.declared.SizeAnswer.TheVariants.{Fits, TooManyRows, TooManyColumns}
@@ -33,17 +32,17 @@ pub record SoundColumns (x : List Float) (n k : ℕ) (size : SheetSize) : Type 0
   pub some : 0 < k
   pub asked : size ≡ record { rows = n; columns = k }
   pub design : Design size x
-  pub numbers : first_bad x ≡ Nothing
+  pub numbers : first_bad x ≡ None
 
 never : {b : Columns} {size : SheetSize} → b ≡ Sound size → (b ≡ Sound size → ◌≡◌ {A = ℕ} 0 1) → ⊥
 never e f = let z = f e in omega arith
 
-run_sound : (x : List Float) (size : SheetSize) {found : SheetSize} → run_of x size ≡ Sound found → (found ≡ size) × (size.columns * size.rows ≡ length x) × (first_bad x ≡ Nothing)
+run_sound : (x : List Float) (size : SheetSize) {found : SheetSize} → run_of x size ≡ Sound found → (found ≡ size) × (size.columns * size.rows ≡ length x) × (first_bad x ≡ None)
 run_sound x size {found} h = go (eqb (length x) (size.columns * size.rows)) (first_bad x) refl refl h
   where
-    go : (b : Bool) (f : Found) → eqb (length x) (size.columns * size.rows) ≡ b → first_bad x ≡ f → cond b (numbers_by size f) WrongLength ≡ Sound found → (found ≡ size) × (size.columns * size.rows ≡ length x) × (first_bad x ≡ Nothing)
-    go true (At t) p q e = absurd (never e (λ e. cc))
-    go true Nothing p q e = (cc, sym (eqb-true (length x) (size.columns * size.rows) p), q)
+    go : (b : Bool) (f : Option ℕ) → eqb (length x) (size.columns * size.rows) ≡ b → first_bad x ≡ f → cond b (numbers_by size f) WrongLength ≡ Sound found → (found ≡ size) × (size.columns * size.rows ≡ length x) × (first_bad x ≡ None)
+    go true (Some t) p q e = absurd (never e (λ e. cc))
+    go true None p q e = (cc, sym (eqb-true (length x) (size.columns * size.rows) p), q)
     go false f p q e = absurd (never e (λ e. cc))
 
 pub sound-columns : (x : List Float) (n k : ℕ) {size : SheetSize} → columns_of x n k ≡ Sound size → SoundColumns x n k size

@@ -1,11 +1,9 @@
 -- The size of a sheet and the checks of its columns, in the order tried; and whether its rows are too few, which is asked after the statistic.
 -- The k columns of n rows are one run x, column after column: row t of column j is x ‼ (j * n + t).
 -- Definitions only. Assumes nothing.
-use Rattle.std.specs.Prelude.{◌≡◌, ℕ, ◌*◌, ◌≤◌, Bool, cond, List, ltb, leb, eqb, length, Float}
+use Rattle.std.specs.Prelude.{◌≡◌, ℕ, ◌*◌, ◌≤◌, Bool, cond, List, ltb, leb, eqb, length, Float, Option, Some, None}
 use Rattle.floats.specs.Limits.{max_rows, max_columns}
 use Rattle.floats.specs.Search.{first_bad}
-use Rattle.floats.specs.declared.search.Found.{Found}
-use Rattle.floats.specs.declared.search.Found.TheVariants.{At, Nothing}
 use Rattle.columns.specs.declared.SheetSize.{SheetSize}
 use Rattle.columns.specs.declared.SizeAnswer.{SizeAnswer}
 use Rattle.columns.specs.declared.SizeAnswer.TheVariants.{Fits, TooManyRows, TooManyColumns}
@@ -17,9 +15,9 @@ abbrev pub size_of : ℕ → ℕ → SizeAnswer
 size_of n k = cond (ltb max_rows n) TooManyRows (cond (ltb max_columns k) TooManyColumns (Fits (record { rows = n; columns = k })))
 
 -- every number is finite, or the first that is not
-abbrev pub numbers_by : SheetSize → Found → Columns
-numbers_by size (At t) = NotFinite t
-numbers_by size Nothing = Sound size
+abbrev pub numbers_by : SheetSize → Option ℕ → Columns
+numbers_by size (Some t) = NotFinite t
+numbers_by size None = Sound size
 
 -- the run has a number for each row of each column
 abbrev pub run_of : List Float → SheetSize → Columns

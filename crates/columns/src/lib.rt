@@ -6,7 +6,7 @@ ghost use Rattle.floats.specs.Limits.{max_rows, max_columns};
 ghost use Rattle.columns.specs.Sheet.{size_of, run_of, columns_of, too_few_rows};
 
 use floats::limits::{MAX_COLUMNS, MAX_ROWS};
-use floats::search::{Found, first_bad};
+use floats::search::first_bad;
 
 // Rows and columns of a sheet, within the limits of the sheet itself.
 #[derive(Clone, Copy)]
@@ -78,8 +78,8 @@ fn check_run(columns: &[f64], size: SheetSize) -> Columns
     }
     let bad = first_bad(columns);
     match bad {
-        Found::At(t) => Columns::NotFinite(t),
-        Found::Nothing => Columns::Sound(size),
+        Some(t) => Columns::NotFinite(t),
+        None => Columns::Sound(size),
     }
 }
 

@@ -5,6 +5,7 @@ use Prim.Native.Nat.{ℕ, ◌+◌}
 use native.Mathlib.Numerals.{add-one}
 use lib.ListN.{set}
 use lib.Ieee.{Float}
+use Rattle.std.specs.Prelude.{None}
 use Rattle.floats.specs.Words.{◌⊘◌}
 use Rattle.floats.specs.Turns.{turns}
 use Rattle.design.specs.Matrix.{Matrix, row_at, entry, zero_row, zero_matrix}
@@ -12,7 +13,6 @@ use Rattle.design.specs.Factor.{rest_of, left_to, left_of, with_root, factor_of,
 use mathlib.Core.Bool.{true}
 use Prim.Native.Nat.{◌<◌}
 use Rattle.floats.specs.Search.{first_where}
-use Rattle.floats.specs.declared.search.Found.TheVariants.{Nothing}
 use Rattle.floats.proofs.FirstLaws.{first-at}
 use Rattle.design.specs.declared.Pivots.TheVariants.{Hold, Fails}
 
@@ -34,10 +34,10 @@ module _ (x : List Float) (n : ℕ) where
   factor-more i = rw (add-one i)
 
   -- the answer, where the pivots before held
-  pub fails-first : {k i : ℕ} → i < k → first_where i (fails_at x n) ≡ Nothing → fails_at x n i ≡ true → pivots_of x n k ≡ Fails i
+  pub fails-first : {k i : ℕ} → i < k → first_where i (fails_at x n) ≡ None → fails_at x n i ≡ true → pivots_of x n k ≡ Fails i
   unfolding pivots_of
   fails-first h none e = rw (first-at (fails_at x n) h none e)
 
-  pub hold-all : (k : ℕ) → first_where k (fails_at x n) ≡ Nothing → pivots_of x n k ≡ Hold
+  pub hold-all : (k : ℕ) → first_where k (fails_at x n) ≡ None → pivots_of x n k ≡ Hold
   unfolding pivots_of
   hold-all k none = rw none

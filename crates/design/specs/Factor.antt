@@ -1,15 +1,13 @@
 -- The Cholesky factor L of X'X, row by row, and its pivots.
 -- The columns of X are one run x of n rows each: row t of column j is x ‼ (j * n + t). Sums run first to last, from -0.
 -- Definitions only. Assumes nothing.
-use Rattle.std.specs.Prelude.{ℕ, ◌*◌, Bool, List, set, Float}
+use Rattle.std.specs.Prelude.{ℕ, ◌*◌, Bool, List, set, Float, Option, Some, None}
 use Rattle.std.specs.Float.Ieee.{le}
 use Rattle.floats.specs.Words.{◌⊖◌, ◌⊗◌, ◌⊘◌, ◌‼◌, float}
 use Rattle.floats.specs.Sums.{sum_of, sum_products}
 use Rattle.floats.specs.Signs.{max_of}
 use Rattle.floats.specs.Search.{first_where}
 use Rattle.floats.specs.Turns.{turns}
-use Rattle.floats.specs.declared.search.Found.{Found}
-use Rattle.floats.specs.declared.search.Found.TheVariants.{At, Nothing}
 use Rattle.roots.specs.Root.{sqrt_of}
 use Rattle.design.specs.Matrix.{Matrix, row_at, entry, zero_row, zero_matrix}
 use Rattle.design.specs.declared.Pivots.{Pivots}
@@ -59,9 +57,9 @@ unfoldable pub fails_at : List Float → ℕ → ℕ → Bool
 fails_at x n i = fails x n i (left_of x n (factor_of x n i) i)
 
 -- the answer for what a search for failing pivots found
-abbrev pub pivots_by : Found → Pivots
-pivots_by (At i) = Fails i
-pivots_by Nothing = Hold
+abbrev pub pivots_by : Option ℕ → Pivots
+pivots_by (Some i) = Fails i
+pivots_by None = Hold
 
 -- whether all k pivots hold, or the first that fails
 unfoldable pub pivots_of : List Float → ℕ → ℕ → Pivots

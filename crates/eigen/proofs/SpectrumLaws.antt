@@ -4,6 +4,7 @@ use Prim.Native.Nat.{ℕ, ◌+◌, ◌-◌, ◌≤◌}
 use native.Mathlib.Omega.{arith}
 use mathlib.Core.List.{List, [], ◌++◌, append-nil}
 use lib.Ieee.{Float}
+use Rattle.std.specs.Prelude.{Option, Some, None}
 use Rattle.floats.specs.Tables.{triangle}
 use Rattle.floats.specs.Limits.{matrix_room}
 use Rattle.floats.specs.Matrix.{entry, whole, half_of}
@@ -15,8 +16,6 @@ use Rattle.tridiagonal.proofs.ReflectionLaws.{tridiagonal-long, tridiagonal-symm
 use Rattle.floats.specs.Count.{no_work}
 use Rattle.floats.specs.Search.{first_bad}
 use Rattle.floats.specs.declared.tally.Tally.{Tally}
-use Rattle.floats.specs.declared.search.Found.{Found}
-use Rattle.floats.specs.declared.search.Found.TheVariants.{At, Nothing}
 use Rattle.projection.specs.Projection.{product, residual_maker, mam_of}
 use Rattle.tridiagonal.specs.Reflection.{tridiagonal_of}
 use Rattle.tridiagonal.specs.Bands.{diagonal_of, couplings_of}
@@ -55,12 +54,12 @@ module _ (n : ℕ) (room t d₀ e₀ d e : List Float) (w : Tally) (l : length t
   worked-is m o g f h = let x : m ≡ triangle n = omega arith in let y = rw x at g in let r = worked-from y (rw x at f) (rw x at h) in (y, r.0, r.1)
 
 -- one of the numbers is not finite
-pub number-bad : (n k : ℕ) (b : List Float) (t : ℕ) → first_bad (numbers_of n b) ≡ At t → (delivered_of n k b ≡ NumberNotFinite) × (delivered_numbers n k b ≡ [])
+pub number-bad : (n k : ℕ) (b : List Float) (t : ℕ) → first_bad (numbers_of n b) ≡ Some t → (delivered_of n k b ≡ NumberNotFinite) × (delivered_numbers n k b ≡ [])
 unfolding delivered_of delivered_numbers
 number-bad n k b t h = rw h (refl, refl)
 
 -- what is kept
-pub numbers-good : (n k : ℕ) (b d : List Float) → first_bad (numbers_of n b) ≡ Nothing → d ≡ falling (numbers_of n b) n ++ drop n (numbers_of n b)
+pub numbers-good : (n k : ℕ) (b d : List Float) → first_bad (numbers_of n b) ≡ None → d ≡ falling (numbers_of n b) n ++ drop n (numbers_of n b)
     → (delivered_of n k b ≡ Kept (record { count = length (large (take (n - k) d)); work = (worked_of n b).work; stuck = bands_stuck n (tridiagonal_of n b) })) × (delivered_numbers n k b ≡ large (take (n - k) d))
 unfolding delivered_of delivered_numbers kept_of
 numbers-good n k b d h e =
@@ -72,16 +71,16 @@ numbers-good n k b d h e =
 
 -- an entry of M A M is not finite; and where all are, what the QL step delivers. The lower triangle decides which
 module _ (x : List Float) (inverse : List (List Float)) (n k : ℕ) where
-  pub matrix-bad : (t : ℕ) → first_bad (half_of n (mam_of x inverse n k)) ≡ At t
+  pub matrix-bad : (t : ℕ) → first_bad (half_of n (mam_of x inverse n k)) ≡ Some t
       → (spectrum_of x inverse n k ≡ MatrixNotFinite) × (kept_numbers x inverse n k ≡ []) × (front_of x inverse n k ≡ half_of n (mam_of x inverse n k))
   unfolding spectrum_of kept_numbers front_of
   matrix-bad t h = go (first_bad (mam_of x inverse n k)) refl
     where
-      go : (f : Found) → first_bad (mam_of x inverse n k) ≡ f → (spectrum_of x inverse n k ≡ MatrixNotFinite) × (kept_numbers x inverse n k ≡ []) × (front_of x inverse n k ≡ half_of n (mam_of x inverse n k))
-      go (At u) e = rw e (refl, refl, refl)
-      go Nothing e = absurd (half-not-finite n (product x inverse n k) t (ap first_bad (sym (half-symmetric n (product x inverse n k))) ∙ h) e)
+      go : (f : Option ℕ) → first_bad (mam_of x inverse n k) ≡ f → (spectrum_of x inverse n k ≡ MatrixNotFinite) × (kept_numbers x inverse n k ≡ []) × (front_of x inverse n k ≡ half_of n (mam_of x inverse n k))
+      go (Some u) e = rw e (refl, refl, refl)
+      go None e = absurd (half-not-finite n (product x inverse n k) t (ap first_bad (sym (half-symmetric n (product x inverse n k))) ∙ h) e)
 
-  pub matrix-good : first_bad (half_of n (mam_of x inverse n k)) ≡ Nothing
+  pub matrix-good : first_bad (half_of n (mam_of x inverse n k)) ≡ None
       → (spectrum_of x inverse n k ≡ delivered_of n k (mam_of x inverse n k)) × (kept_numbers x inverse n k ≡ delivered_numbers n k (mam_of x inverse n k)) × (front_of x inverse n k ≡ half_of n (tridiagonal_of n (mam_of x inverse n k)))
   unfolding spectrum_of kept_numbers front_of
   matrix-good h = rw (half-finite n (product x inverse n k) (ap first_bad (sym (half-symmetric n (product x inverse n k))) ∙ h)) (refl, refl, refl)
@@ -92,26 +91,26 @@ numbers-within : (n k : ℕ) (b : List Float) → length (delivered_numbers n k 
 unfolding delivered_numbers
 numbers-within n k b = go (first_bad (numbers_of n b))
   where
-    go : (f : Found) → length (kept_from f n k (numbers_of n b)) ≤ n - k
-    go (At t) = omega arith
-    go Nothing = kept-few (numbers_of n b) n k
+    go : (f : Option ℕ) → length (kept_from f n k (numbers_of n b)) ≤ n - k
+    go (Some t) = omega arith
+    go None = kept-few (numbers_of n b) n k
 
 -- at most n - k numbers are kept
 pub kept-within : (x : List Float) (inverse : List (List Float)) (n k : ℕ) → length (kept_numbers x inverse n k) ≤ n - k
 unfolding kept_numbers
 kept-within x inverse n k = go (first_bad (mam_of x inverse n k))
   where
-    go : (f : Found) → length (numbers_by f n k (mam_of x inverse n k)) ≤ n - k
-    go (At t) = omega arith
-    go Nothing = numbers-within n k (mam_of x inverse n k)
+    go : (f : Option ℕ) → length (numbers_by f n k (mam_of x inverse n k)) ≤ n - k
+    go (Some t) = omega arith
+    go None = numbers-within n k (mam_of x inverse n k)
 
 -- the count is how many there are, and the mark is whether a coupling was left
-told-by : (f : Found) (n k : ℕ) (numbers : List Float) (work : Tally) (stuck : Bool) (s : Numbers) → kept_by f n k numbers work stuck ≡ Kept s → (s.count ≡ length (kept_from f n k numbers)) × (s.stuck ≡ stuck)
-told-by (At t) n k numbers work stuck s e = absurd (clash e)
+told-by : (f : Option ℕ) (n k : ℕ) (numbers : List Float) (work : Tally) (stuck : Bool) (s : Numbers) → kept_by f n k numbers work stuck ≡ Kept s → (s.count ≡ length (kept_from f n k numbers)) × (s.stuck ≡ stuck)
+told-by (Some t) n k numbers work stuck s e = absurd (clash e)
   where
     clash : NumberNotFinite ≡ Kept s → ⊥
     clash q = let z : ◌≡◌ {A = ℕ} 0 1 = cc in omega arith
-told-by Nothing n k numbers work stuck s e = (sym (ap (λ (r : Numbers). r.count) (same e)), sym (ap (λ (r : Numbers). r.stuck) (same e)))
+told-by None n k numbers work stuck s e = (sym (ap (λ (r : Numbers). r.count) (same e)), sym (ap (λ (r : Numbers). r.stuck) (same e)))
   where
     same : Kept (record { count = length (kept_of numbers n k); work = work; stuck = stuck }) ≡ Kept s → ◌≡◌ {A = Numbers} (record { count = length (kept_of numbers n k); work = work; stuck = stuck }) s
     same q = cc
@@ -128,9 +127,9 @@ kept-told x inverse n k s h = go (first_bad (mam_of x inverse n k)) h
     clash : MatrixNotFinite ≡ Kept s → ⊥
     clash q = let z : ◌≡◌ {A = ℕ} 0 1 = cc in omega arith
 
-    go : (f : Found) → spectrum_by f n k (mam_of x inverse n k) ≡ Kept s → (s.count ≡ length (numbers_by f n k (mam_of x inverse n k))) × (s.stuck ≡ bands_stuck n (tridiagonal_of n (mam_of x inverse n k)))
-    go (At t) e = absurd (clash e)
-    go Nothing e = delivered-told n k (mam_of x inverse n k) s e
+    go : (f : Option ℕ) → spectrum_by f n k (mam_of x inverse n k) ≡ Kept s → (s.count ≡ length (numbers_by f n k (mam_of x inverse n k))) × (s.stuck ≡ bands_stuck n (tridiagonal_of n (mam_of x inverse n k)))
+    go (Some t) e = absurd (clash e)
+    go None e = delivered-told n k (mam_of x inverse n k) s e
 
 -- ---- the room beyond its first n (n + 1) numbers stays
 

@@ -1,13 +1,11 @@
 -- The eigenvalues of M A that the exact test uses. M A has those of the symmetric M A M, since M is idempotent: M A M is made tridiagonal, the QL step
 -- delivers n numbers, and the n - k largest that exceed 1e-10 are kept (R's dwtest). Residuals do not appear.
 -- x holds k columns of n numbers, one after another, and inverse is (X'X)^-1. Definitions only. Assumes nothing.
-use Rattle.std.specs.Prelude.{ℕ, Bool, List, [], Float, length}
+use Rattle.std.specs.Prelude.{ℕ, Bool, List, [], Float, length, Option, Some, None}
 use Rattle.floats.specs.Count.{no_work}
 use Rattle.floats.specs.Matrix.{half_of}
 use Rattle.floats.specs.Search.{first_bad}
 use Rattle.floats.specs.declared.tally.Tally.{Tally}
-use Rattle.floats.specs.declared.search.Found.{Found}
-use Rattle.floats.specs.declared.search.Found.TheVariants.{At, Nothing}
 use Rattle.projection.specs.Projection.{mam_of}
 use Rattle.tridiagonal.specs.Reflection.{tridiagonal_of}
 use Rattle.tridiagonal.specs.Bands.{diagonal_of, couplings_of}
@@ -32,13 +30,13 @@ abbrev pub numbers_of : ℕ → List Float → List Float
 numbers_of n b = (worked_of n b).diagonal
 
 -- one of them is not finite; else how many are kept, the sweeps, and whether a coupling was left
-abbrev pub kept_by : Found → ℕ → ℕ → List Float → Tally → Bool → Spectrum
-kept_by (At t) n k numbers work stuck = NumberNotFinite
-kept_by Nothing n k numbers work stuck = Kept (record { count = length (kept_of numbers n k); work = work; stuck = stuck })
+abbrev pub kept_by : Option ℕ → ℕ → ℕ → List Float → Tally → Bool → Spectrum
+kept_by (Some t) n k numbers work stuck = NumberNotFinite
+kept_by None n k numbers work stuck = Kept (record { count = length (kept_of numbers n k); work = work; stuck = stuck })
 
-abbrev pub kept_from : Found → ℕ → ℕ → List Float → List Float
-kept_from (At t) n k numbers = []
-kept_from Nothing n k numbers = kept_of numbers n k
+abbrev pub kept_from : Option ℕ → ℕ → ℕ → List Float → List Float
+kept_from (Some t) n k numbers = []
+kept_from None n k numbers = kept_of numbers n k
 
 unfoldable pub delivered_of : ℕ → ℕ → List Float → Spectrum
 delivered_of n k b = kept_by (first_bad (numbers_of n b)) n k (numbers_of n b) (worked_of n b).work (bands_stuck n (tridiagonal_of n b))
@@ -47,13 +45,13 @@ unfoldable pub delivered_numbers : ℕ → ℕ → List Float → List Float
 delivered_numbers n k b = kept_from (first_bad (numbers_of n b)) n k (numbers_of n b)
 
 -- an entry of M A M is not finite; else what the QL step delivers
-abbrev pub spectrum_by : Found → ℕ → ℕ → List Float → Spectrum
-spectrum_by (At t) n k b = MatrixNotFinite
-spectrum_by Nothing n k b = delivered_of n k b
+abbrev pub spectrum_by : Option ℕ → ℕ → ℕ → List Float → Spectrum
+spectrum_by (Some t) n k b = MatrixNotFinite
+spectrum_by None n k b = delivered_of n k b
 
-abbrev pub numbers_by : Found → ℕ → ℕ → List Float → List Float
-numbers_by (At t) n k b = []
-numbers_by Nothing n k b = delivered_numbers n k b
+abbrev pub numbers_by : Option ℕ → ℕ → ℕ → List Float → List Float
+numbers_by (Some t) n k b = []
+numbers_by None n k b = delivered_numbers n k b
 
 unfoldable pub spectrum_of : List Float → List (List Float) → ℕ → ℕ → Spectrum
 spectrum_of x inverse n k = spectrum_by (first_bad (mam_of x inverse n k)) n k (mam_of x inverse n k)
@@ -63,9 +61,9 @@ unfoldable pub kept_numbers : List Float → List (List Float) → ℕ → ℕ �
 kept_numbers x inverse n k = numbers_by (first_bad (mam_of x inverse n k)) n k (mam_of x inverse n k)
 
 -- what the first n (n + 1) / 2 numbers of the matrix room hold at the end: the lower triangle of M A M, made tridiagonal where it was finite
-abbrev pub front_by : Found → ℕ → List Float → List Float
-front_by (At t) n b = b
-front_by Nothing n b = tridiagonal_of n b
+abbrev pub front_by : Option ℕ → ℕ → List Float → List Float
+front_by (Some t) n b = b
+front_by None n b = tridiagonal_of n b
 
 unfoldable pub front_of : List Float → List (List Float) → ℕ → ℕ → List Float
 front_of x inverse n k = half_of n (front_by (first_bad (mam_of x inverse n k)) n (mam_of x inverse n k))

@@ -15,7 +15,6 @@ pub mod order;
 use columns::SheetSize;
 use design::Matrix;
 use floats::limits::MAX_ROWS;
-use floats::search::Found;
 use floats::tally::Tally;
 
 // How many eigenvalues are kept, the sweeps that they took, and whether an index of the QL step still had a coupling left after its turn.
@@ -58,8 +57,8 @@ fn delivered(
     let stuck = swept.stuck;
     let bad = floats::search::first_bad(d);
     match bad {
-        Found::At(_) => Spectrum::NumberNotFinite,
-        Found::Nothing => {
+        Some(_) => Spectrum::NumberNotFinite,
+        None => {
             order::order(d, n);
             let count = order::keep(d, n - k, kept);
             Spectrum::Kept(Numbers { count, work, stuck })
@@ -83,8 +82,8 @@ pub fn ma_eigenvalues(
     let n = size.rows;
     let found = projection::mam(room, columns, inverse, size);
     match found {
-        Found::At(_) => Spectrum::MatrixNotFinite,
-        Found::Nothing => {
+        Some(_) => Spectrum::MatrixNotFinite,
+        None => {
             let mut d = [0.0f64; MAX_ROWS];
             let mut e = [0.0f64; MAX_ROWS];
             delivered(room, size, &mut d[..n], &mut e[..n], kept)

@@ -16,12 +16,11 @@ use lib.Arith.{digits_lt}
 use lib.Ieee.{Float, nan}
 use lib.Ieee.Scale.{finite}
 use borrow.Author.Tests.{lt-ltb, le-ltb}
+use Rattle.std.specs.Prelude.{Option, Some, None}
 use Rattle.floats.specs.Words.{◌‼◌}
 use Rattle.floats.specs.Search.{first_bad}
 use Rattle.floats.specs.Tables.{table, symmetric, triangle, half, part, with_part}
 use Rattle.floats.specs.Matrix.{entry, Symmetric, half_entry, whole, half_of}
-use Rattle.floats.specs.declared.search.Found.{Found}
-use Rattle.floats.specs.declared.search.Found.TheVariants.{At, Nothing}
 use Rattle.floats.proofs.FirstLaws.{none-at, found-holds}
 use Rattle.floats.proofs.TableLaws.{length-table, get_d-table, table_same}
 use Rattle.floats.proofs.ListLaws.{length-with_part, length_part, get_d_part}
@@ -168,7 +167,7 @@ module _ (n : ℕ) (f : ℕ → ℕ → Float) where
   abbrev bad : List Float → ℕ → Bool
   bad a t = not (finite (a ‼ t))
 
-  pub half-finite : first_bad (half f n) ≡ Nothing → first_bad (symmetric f n) ≡ Nothing
+  pub half-finite : first_bad (half f n) ≡ None → first_bad (symmetric f n) ≡ None
   unfolding first_bad
   half-finite e = go (first_bad (symmetric f n)) refl
     where
@@ -185,13 +184,13 @@ module _ (n : ℕ) (f : ℕ → ℕ → Float) where
           rw (get_d-table (λ p. f (max (p / n) (p % n)) (min (p / n) (p % n))) (n * n) t nan h)
           (entries (max (t / n) (t % n)) (min (t / n) (t % n)) (larger-in (t / n) (t % n) i (mod-lt t o)) (smaller-in (t / n) (t % n)))
 
-      go : (r : Found) → first_bad (symmetric f n) ≡ r → r ≡ Nothing
-      go Nothing q = refl
-      go (At t) q =
+      go : (r : Option ℕ) → first_bad (symmetric f n) ≡ r → r ≡ None
+      go None q = refl
+      go (Some t) q =
           let s = found-holds (bad (symmetric f n)) (length (symmetric f n)) t q in
           absurd (true≢false (sym s.1 ∙ all t (omega (arith, s.0, length-symmetric n f))))
 
-  pub half-not-finite : (t : ℕ) → first_bad (half f n) ≡ At t → first_bad (symmetric f n) ≡ Nothing → ⊥
+  pub half-not-finite : (t : ℕ) → first_bad (half f n) ≡ Some t → first_bad (symmetric f n) ≡ None → ⊥
   unfolding first_bad
   half-not-finite t e q =
       let s = found-holds (bad (half f n)) (length (half f n)) t e in

@@ -1,10 +1,8 @@
 -- Tests that all pass, and runs whose every number binary64 holds. Definitions only. Assumes nothing.
-use Rattle.std.specs.Prelude.{ℕ, zero, suc, Bool, true, ◌&&◌, List, T, length, Float}
+use Rattle.std.specs.Prelude.{ℕ, zero, suc, Bool, true, ◌&&◌, List, T, length, Float, Option, Some, None}
 use Rattle.std.specs.Float.{binary64}
 use Rattle.std.specs.Float.Ieee.{fits}
 use Rattle.floats.specs.Words.{◌‼◌}
-use Rattle.floats.specs.declared.search.Found.{Found}
-use Rattle.floats.specs.declared.search.Found.TheVariants.{At, Nothing}
 
 -- test 0, .., test (n - 1) all pass
 unfoldable pub all? : ℕ → (ℕ → Bool) → Bool
@@ -16,6 +14,6 @@ abbrev pub held? : List Float → Bool
 held? e = all? (length e) (λ t. fits binary64 (e ‼ t))
 
 -- what a search for a number that is not finite tells of the run: where there is none, binary64 holds every number
-abbrev pub HeldBy : Found → List Float → Type 0
-HeldBy (At t) xs = Unit
-HeldBy Nothing xs = T (held? xs)
+abbrev pub HeldBy : Option ℕ → List Float → Type 0
+HeldBy (Some t) xs = Unit
+HeldBy None xs = T (held? xs)

@@ -3,20 +3,14 @@ ghost use Rattle.std.specs.Prelude.{◌≡◌};
 ghost use Rattle.floats.specs.Search.{first_bad};
 ghost use Rattle.floats.specs.Held.{HeldBy};
 
-#[derive(Clone, Copy)]
-pub enum Found {
-    At(usize),
-    Nothing,
-}
-
-pub fn first_bad(xs: &[f64]) -> Found
+pub fn first_bad(xs: &[f64]) -> Option<usize>
     ensures value { result ≡ first_bad xs.now }
     ensures held_by { HeldBy result xs.now }
 {
     for t in 0..xs.len() {
         if !super::signs::is_finite(xs[t]) {
-            return Found::At(t);
+            return Some(t);
         }
     }
-    Found::Nothing
+    None
 }

@@ -20,7 +20,6 @@ ghost use Rattle.projection.specs.Projection.{weight, hat, residual, product, re
 use columns::SheetSize;
 use design::Matrix;
 use floats::limits::{MAX_COLUMNS, MAX_ROWS};
-use floats::search::Found;
 
 mod matrix;
 
@@ -235,7 +234,7 @@ fn fill_room(room: &mut [f64], x: &[f64], inv: &Matrix, size: SheetSize)
 
 // M A M in the first n (n + 1) / 2 numbers of the room and M in the next, the lower triangle of each; the rest of the
 // room stays. The answer is the first number of M A M that is not finite.
-pub fn mam(room: &mut [f64], x: &[f64], inv: Matrix, size: SheetSize) -> Found
+pub fn mam(room: &mut [f64], x: &[f64], inv: Matrix, size: SheetSize) -> Option<usize>
     requires { (matrix_room size.rows ≤ length room.old) × (Design size x.now) }
     ensures value { result ≡ first_bad (half_of size.rows (mam_of x.now inv size.rows size.columns)) }
     ensures room_after { room.new ≡ half_of size.rows (mam_of x.now inv size.rows size.columns) ++ (half_of size.rows (residual_maker x.now inv size.rows size.columns) ++ drop (matrix_room size.rows) room.old) }

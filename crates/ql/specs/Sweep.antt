@@ -1,19 +1,17 @@
 -- A sweep of the implicit QL algorithm: the block that it works on, its shift, and its rotations from the block's end down. Definitions only. Assumes nothing.
-use Rattle.std.specs.Prelude.{ℕ, zero, suc, ◌+◌, ◌-◌, cond, List, set, Float}
+use Rattle.std.specs.Prelude.{ℕ, zero, suc, ◌+◌, ◌-◌, cond, List, set, Float, Option, Some, None}
 use Rattle.floats.specs.Words.{◌⊕◌, ◌⊖◌, ◌⊗◌, ◌⊘◌, ◌‼◌, plus_zero, one, two}
 use Rattle.floats.specs.Signs.{copysign_of}
 use Rattle.floats.specs.Search.{first_where}
-use Rattle.floats.specs.declared.search.Found.{Found}
-use Rattle.floats.specs.declared.search.Found.TheVariants.{At, Nothing}
 use Rattle.roots.specs.Hypot.{hypot_of}
 use Rattle.ql.specs.declared.Rotation.{Rotation}
 use Rattle.ql.specs.declared.Rotated.{Rotated}
 use Rattle.ql.specs.Rotation.{negligible, rotated}
 
 -- index l + t where it was found, else the last
-abbrev pub end_at : ℕ → ℕ → Found → ℕ
-end_at n l (At t) = l + t
-end_at n l Nothing = n - 1
+abbrev pub end_at : ℕ → ℕ → Option ℕ → ℕ
+end_at n l (Some t) = l + t
+end_at n l None = n - 1
 
 -- the last index of the block that begins at l: the first from l on whose coupling is negligible, else n - 1
 unfoldable pub block_end : ℕ → List Float → List Float → ℕ → ℕ

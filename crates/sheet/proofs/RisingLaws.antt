@@ -8,9 +8,8 @@ use mathlib.Core.Path.{◌≡◌, refl}
 use mathlib.Core.Logic.{⊎_elim}
 use mathlib.Core.Bool.{Bool, true, false, true≢false}
 use borrow.Author.Tests.{leb-true, leb-false}
+use Rattle.std.specs.Prelude.{Option, Some, None}
 use Rattle.floats.specs.Search.{first_where}
-use Rattle.floats.specs.declared.search.Found.{Found}
-use Rattle.floats.specs.declared.search.Found.TheVariants.{At, Nothing}
 use Rattle.floats.proofs.FirstLaws.{none-at, found-holds}
 use Rattle.sheet.specs.Rising.{nowhere, falls_at, rises, Rising, Falls}
 
@@ -18,16 +17,16 @@ module _ (f : ℕ → ℕ) (n : ℕ) where
   pub rises-each : rises f n ≡ true → Rising f n
   rises-each h t l = go (first_where (n - 1) (falls_at f)) refl h
     where
-      go : (r : Found) → first_where (n - 1) (falls_at f) ≡ r → nowhere r ≡ true → f t < f (t + 1)
-      go (At s) e h = absurd (let z : true ≡ false = cc in true≢false z)
-      go Nothing e h = leb-false _ _ (none-at (falls_at f) (n - 1) t e (omega arith))
+      go : (r : Option ℕ) → first_where (n - 1) (falls_at f) ≡ r → nowhere r ≡ true → f t < f (t + 1)
+      go (Some s) e h = absurd (let z : true ≡ false = cc in true≢false z)
+      go None e h = leb-false _ _ (none-at (falls_at f) (n - 1) t e (omega arith))
 
   pub falls-somewhere : rises f n ≡ false → Falls f n
   falls-somewhere h = go (first_where (n - 1) (falls_at f)) refl h
     where
-      go : (r : Found) → first_where (n - 1) (falls_at f) ≡ r → nowhere r ≡ false → Falls f n
-      go (At s) e h = let r = found-holds (falls_at f) (n - 1) s e in record { place = s; pair = omega (arith, r.0); falls = leb-true _ _ r.1 }
-      go Nothing e h = absurd (true≢false h)
+      go : (r : Option ℕ) → first_where (n - 1) (falls_at f) ≡ r → nowhere r ≡ false → Falls f n
+      go (Some s) e h = let r = found-holds (falls_at f) (n - 1) s e in record { place = s; pair = omega (arith, r.0); falls = leb-true _ _ r.1 }
+      go None e h = absurd (true≢false h)
 
   pub not-both : Rising f n → Falls f n → ⊥
   not-both h w = omega (arith, h w.place w.pair, w.falls)

@@ -1,13 +1,11 @@
 -- Numbers that rise. They are f 0, f 1, .., f (n - 1) for any function f from an index to a number. Definitions only. Assumes nothing.
-use Rattle.std.specs.Prelude.{ℕ, ◌+◌, ◌-◌, ◌≤◌, ◌<◌, Bool, true, false, leb}
+use Rattle.std.specs.Prelude.{ℕ, ◌+◌, ◌-◌, ◌≤◌, ◌<◌, Bool, true, false, leb, Option, Some, None}
 use Rattle.floats.specs.Search.{first_where}
-use Rattle.floats.specs.declared.search.Found.{Found}
-use Rattle.floats.specs.declared.search.Found.TheVariants.{At, Nothing}
 
 -- nothing was found
-abbrev pub nowhere : Found → Bool
-nowhere (At t) = false
-nowhere Nothing = true
+abbrev pub nowhere : Option ℕ → Bool
+nowhere (Some t) = false
+nowhere None = true
 
 -- number t + 1 is not above number t
 abbrev pub falls_at : (ℕ → ℕ) → ℕ → Bool

@@ -13,10 +13,9 @@ use lib.Seq.{take_at}
 use lib.Ieee.{Float, binary64, to_bits, of_bits}
 use lib.Ieee.Bits.{of_bits-to_bits}
 use lib.Ieee.Fits.{div-fits}
+use Rattle.std.specs.Prelude.{Option, Some, None}
 use Rattle.floats.specs.Words.{one}
 use Rattle.floats.specs.Search.{first_bad}
-use Rattle.floats.specs.declared.search.Found.{Found}
-use Rattle.floats.specs.declared.search.Found.TheVariants.{At, Nothing}
 use Rattle.autocorrelation.specs.Statistic.{differences, squares, durbin_watson, durbin_watson_answer, value}
 use Rattle.columns.specs.Sheet.{columns_of}
 use Rattle.design.specs.Matrix.{Matrix}
@@ -166,17 +165,17 @@ delivered-counted : (n k : ℕ) (b : List Float) → count_in (delivered_of n k 
 unfolding delivered_of delivered_numbers
 delivered-counted n k b = go (first_bad (numbers_of n b))
   where
-    go : (bad : Found) → count_in (kept_by bad n k (numbers_of n b) (worked_of n b).work (bands_stuck n (tridiagonal_of n b))) ≡ length (kept_from bad n k (numbers_of n b))
-    go (At t) = refl
-    go Nothing = refl
+    go : (bad : Option ℕ) → count_in (kept_by bad n k (numbers_of n b) (worked_of n b).work (bands_stuck n (tridiagonal_of n b))) ≡ length (kept_from bad n k (numbers_of n b))
+    go (Some t) = refl
+    go None = refl
 
 pub figures-counted : FiguresCounted
 unfolding spectrum_of kept_numbers
 figures-counted x n k = go (first_bad (mam_of x (inverse_of x n k) n k))
   where
-    go : (bad : Found) → count_in (spectrum_by bad n k (mam_of x (inverse_of x n k) n k)) ≡ length (numbers_by bad n k (mam_of x (inverse_of x n k) n k))
-    go (At t) = refl
-    go Nothing = delivered-counted n k (mam_of x (inverse_of x n k) n k)
+    go : (bad : Option ℕ) → count_in (spectrum_by bad n k (mam_of x (inverse_of x n k) n k)) ≡ length (numbers_by bad n k (mam_of x (inverse_of x n k) n k))
+    go (Some t) = refl
+    go None = delivered-counted n k (mam_of x (inverse_of x n k) n k)
 
 -- all four are what any answer and run have that the promise of `ma_eigenvalues`, which takes no residual, allows for the columns and their inverse
 pub figures-made : (x : List Float) (n k : ℕ) (run room : List Float) (s : Numbers) (after held : List Float) → outcomes.Kept x (inverse_of x n k) n k run room (Kept s) after held

@@ -5,9 +5,9 @@ use mathlib.Core.List.{List, ◌++◌}
 use Prim.Native.Nat.{ℕ, ◌+◌, ◌*◌}
 use lib.ListN.{length, drop}
 use lib.Ieee.{Float}
+use Rattle.std.specs.Prelude.{Option}
 use Rattle.floats.specs.Matrix.{whole, half_of}
 use Rattle.floats.specs.Search.{first_bad}
-use Rattle.floats.specs.declared.search.Found.{Found}
 use Rattle.floats.specs.declared.tally.Tally.{Tally}
 use Rattle.design.specs.Matrix.{Matrix}
 use Rattle.outcome.specs.declared.Alternative.{Alternative}
@@ -60,10 +60,10 @@ module _ (x : List Float) (inverse : Matrix) (n k : ℕ) (run room : List Float)
   pub one-spectrum : (r s : Spectrum) (p p' m m' : List Float) → Kept r p m → Kept s p' m' → (r ≡ s) × (p ≡ p') × (m ≡ m')
   one-spectrum r s p p' m m' f g = (both f.0 g.0, both f.1 g.1, both f.2 g.2)
 
-  abbrev pub Projected : Found → List Float → Type 0
+  abbrev pub Projected : Option ℕ → List Float → Type 0
   Projected r held = (r ≡ first_bad (half_of n (mam_of x inverse n k))) × (held ≡ half_of n (mam_of x inverse n k) ++ (half_of n (residual_maker x inverse n k) ++ drop (n * (n + 1)) room))
 
-  pub one_product : (r s : Found) (m m' : List Float) → Projected r m → Projected s m' → (r ≡ s) × (m ≡ m')
+  pub one_product : (r s : Option ℕ) (m m' : List Float) → Projected r m → Projected s m' → (r ≡ s) × (m ≡ m')
   one_product r s m m' f g = (both f.0 g.0, both f.1 g.1)
 
 -- ---- `tridiagonalize`, `bands` and `ql`

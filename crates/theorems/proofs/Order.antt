@@ -11,10 +11,9 @@ use borrow.Author.Tests.{lt-ltb}
 use lib.ListN.{length}
 use lib.Ieee.{Float, eq, lt}
 use lib.Ieee.Scale.{finite}
+use Rattle.std.specs.Prelude.{Option, Some, None}
 use Rattle.floats.specs.Words.{plus_zero}
 use Rattle.floats.specs.Search.{first_where, first_bad}
-use Rattle.floats.specs.declared.search.Found.{Found}
-use Rattle.floats.specs.declared.search.Found.TheVariants.{At, Nothing}
 use Rattle.autocorrelation.specs.declared.Statistic.{Statistic}
 use Rattle.autocorrelation.specs.declared.Statistic.TheVariants as statistic
 use Rattle.autocorrelation.proofs.Rules.{accepted}
@@ -130,13 +129,13 @@ module _ (x : List Float) (n k : ℕ) (inverse : Matrix) (d : Float) (a : Altern
   unfolding exact_path spectrum_of delivered_of exact_rows first_given law_refused
   exact-refused = go (first_bad product) refl (first_bad (numbers_of n product)) refl (imhof_of kept d).answer refl
     where
-      go : (f : Found) → first_bad product ≡ f → (g : Found) → first_bad (numbers_of n product) ≡ g → (q : Exact) → (imhof_of kept d).answer ≡ q
+      go : (f : Option ℕ) → first_bad product ≡ f → (g : Option ℕ) → first_bad (numbers_of n product) ≡ g → (q : Exact) → (imhof_of kept d).answer ≡ q
           → (exact_path (layout_from x n k inverse) (asking d a n)).refusal ≡ first_given exact_rows
-      go (At t) p g q r s = rw (p) refl
-      go Nothing p (At t) q r s = rw (p, q) refl
-      go Nothing p Nothing q NoWeight s = rw (p, q, s, none_left kept d s) (unfold normal_path in normal-refused x n k inverse (asking d a n) _)
-      go Nothing p Nothing q NotFinite s = rw (p, q, s) refl
-      go Nothing p Nothing q (Value v) s = rw (p, q, s, weight-left kept d (Value v) s valued) refl
+      go (Some t) p g q r s = rw (p) refl
+      go None p (Some t) q r s = rw (p, q) refl
+      go None p None q NoWeight s = rw (p, q, s, none_left kept d s) (unfold normal_path in normal-refused x n k inverse (asking d a n) _)
+      go None p None q NotFinite s = rw (p, q, s) refl
+      go None p None q (Value v) s = rw (p, q, s, weight-left kept d (Value v) s valued) refl
 
 -- ---- the whole
 
@@ -170,13 +169,13 @@ module _ (e x : List Float) (k : ℕ) (a : Alternative) (choice : Choice) (matri
   unfolding design_of first_of pivots_of
   decided = go (first_where k (fails_at x n)) refl (finite_matrix k (inverse_of x n k)) refl
     where
-      go : (f : Found) → first_where k (fails_at x n) ≡ f → (b : Bool) → finite_matrix k (inverse_of x n k) ≡ b
+      go : (f : Option ℕ) → first_where k (fails_at x n) ≡ f → (b : Bool) → finite_matrix k (inverse_of x n k) ≡ b
           → (design_of room_of x n k (asking (durbin_watson e) a n) choice matrix_room part_room).refusal ≡
           cond (found (first_where k (fails_at x n))) (refusal 11 (found_at (first_where k (fails_at x n))))
           (cond (not (finite_matrix k (inverse_of x n k))) (refusal 13 1) (first_given (last_rows e x k choice matrix_room part_room)))
-      go (At i) f b g = rw f refl
-      go Nothing f false g = rw (f, g) refl
-      go Nothing f true g = rw (f, g) answered
+      go (Some i) f b g = rw f refl
+      go None f false g = rw (f, g) refl
+      go None f true g = rw (f, g) answered
 
   -- rows 1 to 4, and 5 to 9, each with what comes after
   columns-rows : (after : Refusal) → cond (eqb k 0) (refusal 1 0)
@@ -187,15 +186,15 @@ module _ (e x : List Float) (k : ℕ) (a : Alternative) (choice : Choice) (matri
   columns-rows after = go (eqb k 0) refl (ltb 256 n) refl (ltb 8 k) refl (eqb (length x) (k * n)) refl (first_bad x) refl
     where
       go : (none : Bool) → eqb k 0 ≡ none → (long : Bool) → ltb 256 n ≡ long → (wide : Bool) → ltb 8 k ≡ wide → (run : Bool) → eqb (length x) (k * n) ≡ run
-          → (column : Found) → first_bad x ≡ column
+          → (column : Option ℕ) → first_bad x ≡ column
           → cond none (refusal 1 0) (cond long (refusal 2 0) (cond wide (refusal 2 1) (cond (not run) (refusal 3 0) (cond (found column) (refusal 4 (found_at column)) after))))
           ≡ cond (passes (columns_refusal (columns_of x n k))) after (columns_refusal (columns_of x n k))
       go true a b c d f g h i j = rw a refl
       go false a true c d f g h i j = rw (a, c) refl
       go false a false c true f g h i j = rw (a, c, f) refl
       go false a false c false f false h i j = rw (a, c, f, h) refl
-      go false a false c false f true h (At t) j = rw (a, c, f, h, j) refl
-      go false a false c false f true h Nothing j = rw (a, c, f, h, j) refl
+      go false a false c false f true h (Some t) j = rw (a, c, f, h, j) refl
+      go false a false c false f true h None j = rw (a, c, f, h, j) refl
 
   residuals-rows : (after : Refusal) → cond (eqb n 0) (refusal 5 0)
       (cond (eqb n 1) (refusal 6 0)
@@ -205,16 +204,16 @@ module _ (e x : List Float) (k : ℕ) (a : Alternative) (choice : Choice) (matri
   unfolding durbin_watson_answer
   residuals-rows after = go (eqb n 0) refl (eqb n 1) refl (first_bad e) refl (eq (squares e) plus_zero) refl (finite (squares e) && finite (differences e)) refl
     where
-      go : (zero : Bool) → eqb n 0 ≡ zero → (single : Bool) → eqb n 1 ≡ single → (residual : Found) → first_bad e ≡ residual
+      go : (zero : Bool) → eqb n 0 ≡ zero → (single : Bool) → eqb n 1 ≡ single → (residual : Option ℕ) → first_bad e ≡ residual
           → (still : Bool) → eq (squares e) plus_zero ≡ still → (fine : Bool) → finite (squares e) && finite (differences e) ≡ fine
           → cond zero (refusal 5 0) (cond single (refusal 6 0) (cond (found residual) (refusal 7 (found_at residual)) (cond still (refusal 8 0) (cond (not fine) (refusal 9 0) after))))
           ≡ cond (passes (statistic_refusal (durbin_watson_answer e))) after (statistic_refusal (durbin_watson_answer e))
       go true a b c d f g h i j = rw a refl
       go false a true c d f g h i j = rw (a, c) refl
-      go false a false c (At t) f g h i j = rw (a, c, f) refl
-      go false a false c Nothing f true h i j = rw (a, c, f, h) refl
-      go false a false c Nothing f false h false j = rw (a, c, f, h, j) refl
-      go false a false c Nothing f false h true j = rw (a, c, f, h, j) refl
+      go false a false c (Some t) f g h i j = rw (a, c, f) refl
+      go false a false c None f true h i j = rw (a, c, f, h) refl
+      go false a false c None f false h false j = rw (a, c, f, h, j) refl
+      go false a false c None f false h true j = rw (a, c, f, h, j) refl
 
   -- where nothing is refused, the statistic is Durbin and Watson's
   pub value-is : passes (statistic_refusal (durbin_watson_answer e)) ≡ true → value (durbin_watson_answer e) ≡ durbin_watson e

@@ -11,11 +11,10 @@ use lib.Dec.{T, eqb}
 use lib.ListN.{length}
 use lib.Ieee.{Float}
 use lib.Ieee.Scale.{finite}
+use Rattle.std.specs.Prelude.{Option, Some, None}
 use Rattle.floats.specs.Words.{◌‼◌}
 use Rattle.floats.specs.Search.{first_where, first_bad}
 use Rattle.floats.specs.Held.{held?}
-use Rattle.floats.specs.declared.search.Found.{Found}
-use Rattle.floats.specs.declared.search.Found.TheVariants.{At, Nothing}
 use Rattle.autocorrelation.specs.Statistic.{of_found, durbin_watson_answer}
 use Rattle.autocorrelation.specs.declared.Statistic.TheVariants.{Empty, Single}
 use Rattle.outcome.specs.declared.Alternative.{Alternative}
@@ -40,7 +39,7 @@ first-same (suc n) f g h = rw (first-same n f g (λ t l. h t (le_step l)), h n (
 
 module _ (e e' : List Float) (long : length e' ≡ length e) where
   -- where the same residuals are finite, and of two or more that all are the sums decide alike, the answers are one
-  pub answer-same : ((t : ℕ) → t < length e → finite (e' ‼ t) ≡ finite (e ‼ t)) → (2 ≤ length e → first_bad e ≡ Nothing → of_found Nothing e' ≡ of_found Nothing e)
+  pub answer-same : ((t : ℕ) → t < length e → finite (e' ‼ t) ≡ finite (e ‼ t)) → (2 ≤ length e → first_bad e ≡ None → of_found None e' ≡ of_found None e)
       → durbin_watson_answer e' ≡ durbin_watson_answer e
   unfolding durbin_watson_answer
   answer-same ends sums = rw (long, bad) (go (eqb (length e) 0) (eqb-false (length e) 0) (eqb (length e) 1) (eqb-false (length e) 1) (first_bad e) sums)
@@ -48,12 +47,12 @@ module _ (e e' : List Float) (long : length e' ≡ length e) where
       bad : first_bad e' ≡ first_bad e
       bad = unfold first_bad in (ap (λ (n : ℕ). first_where n (λ t. not (finite (e' ‼ t)))) long ∙ first-same (length e) (λ t. not (finite (e' ‼ t))) (λ t. not (finite (e ‼ t))) (λ t l. ap not (ends t l)))
 
-      go : (a : Bool) → (a ≡ false → length e ≡ 0 → ⊥) → (b : Bool) → (b ≡ false → length e ≡ 1 → ⊥) → (f : Found) → (2 ≤ length e → f ≡ Nothing → of_found Nothing e' ≡ of_found Nothing e)
+      go : (a : Bool) → (a ≡ false → length e ≡ 0 → ⊥) → (b : Bool) → (b ≡ false → length e ≡ 1 → ⊥) → (f : Option ℕ) → (2 ≤ length e → f ≡ None → of_found None e' ≡ of_found None e)
           → cond a Empty (cond b Single (of_found f e')) ≡ cond a Empty (cond b Single (of_found f e))
       go true p b q f h = refl
       go false p true q f h = refl
-      go false p false q (At t) h = refl
-      go false p false q Nothing h = h (two-at-least (length e) (p refl) (q refl)) refl
+      go false p false q (Some t) h = refl
+      go false p false q None h = h (two-at-least (length e) (p refl) (q refl)) refl
 
   -- THE TEST sees no more
   pub alike : durbin_watson_answer e' ≡ durbin_watson_answer e → Alike e e'

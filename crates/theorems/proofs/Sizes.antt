@@ -15,11 +15,10 @@ use lib.Ieee.{Float, binary64, round, eq, neg, of_bits}
 use lib.Ieee.Bits.{is_false}
 use lib.Ieee.Fits.{and_l, and_r}
 use lib.Ieee.Scale.{finite}
+use Rattle.std.specs.Prelude.{Option, Some, None}
 use Rattle.floats.specs.Words.{◌⊕◌, ◌‼◌, plus_zero, minus_zero, square_of}
 use Rattle.floats.specs.Sums.{sum_of}
 use Rattle.floats.specs.Search.{first_bad}
-use Rattle.floats.specs.declared.search.Found.{Found}
-use Rattle.floats.specs.declared.search.Found.TheVariants.{At, Nothing}
 use Rattle.floats.specs.Held.{all?, held?}
 use Rattle.autocorrelation.specs.Statistic.{squares, differences}
 use Rattle.autocorrelation.proofs.Close.{Close, close-sym, close-zero}
@@ -95,7 +94,7 @@ all_same zero f g h = refl
 all_same (suc n) f g h = rw (all_same n f g (λ t l. h t (le_step l)), h n (le_refl (suc n))) refl
 
 -- what rows 8 and 9 ask
-sums : (e : List Float) → T (held? e) → T (sized e) → 2 ≤ length e → first_bad e ≡ Nothing → (eq (squares e) plus_zero ≡ zeros e) × (finite (squares e) && finite (differences e) ≡ true)
+sums : (e : List Float) → T (held? e) → T (sized e) → 2 ≤ length e → first_bad e ≡ None → (eq (squares e) plus_zero ≡ zeros e) × (finite (squares e) && finite (differences e) ≡ true)
 sums e held size many none =
     let q = sums-times e e (length e) many own in (
       sum-zero (square_room + 54) (lit≤ tt) (λ t. square_of (e ‼ t)) (length e) (λ (t : ℕ) (l : t < length e). residual-square (own t l))
@@ -158,16 +157,16 @@ three false true c h = absurd (true≢false (sym h))
 three false false true h = absurd (true≢false (sym h))
 three false false false h = (refl, refl, refl)
 
-not_found : (f : Found) → found f ≡ false → f ≡ Nothing
-not_found (At t) h = absurd (true≢false h)
-not_found Nothing h = refl
+not_found : (f : Option ℕ) → found f ≡ false → f ≡ None
+not_found (Some t) h = absurd (true≢false h)
+not_found None h = refl
 
 -- five rows are of the columns, three of how many residuals there are and whether they are finite, and then come rows 8 and 9
 module _ (e x : List Float) (k : ℕ) (c : Choice) (m p : ℕ) where
   abbrev table : List Row
   table = rows e x k c m p
 
-  past-seven : Past (first_given table) → (2 ≤ length e) × (first_bad e ≡ Nothing) × (first_given table ≡ first_given (drop 8 table))
+  past-seven : Past (first_given table) → (2 ≤ length e) × (first_bad e ≡ None) × (first_given table ≡ first_given (drop 8 table))
   unfolding early quiet
   past-seven past =
       let columns = past-rows (take 5 table) (drop 5 table) tt past in

@@ -5,11 +5,10 @@ use Prim.Native.Nat.{ℕ, zero, suc}
 use mathlib.Core.List.{List}
 use lib.Dec.{eqb}
 use lib.Ieee.{Float}
+use Rattle.std.specs.Prelude.{Option, Some, None}
 use Rattle.floats.specs.Count.{no_work, one_sweep}
 use Rattle.floats.specs.Search.{first_bad}
 use Rattle.floats.specs.declared.tally.Tally.{Tally}
-use Rattle.floats.specs.declared.search.Found.{Found}
-use Rattle.floats.specs.declared.search.Found.TheVariants.{At, Nothing}
 use Rattle.projection.specs.Projection.{mam_of}
 use Rattle.tridiagonal.specs.Reflection.{tridiagonal_of}
 use Rattle.tridiagonal.specs.Bands.{diagonal_of, couplings_of}
@@ -66,17 +65,17 @@ delivered-swept : (n k : ℕ) (b : List Float) → Swept (delivered_of n k b)
 unfolding delivered_of
 delivered-swept n k b = go (first_bad (numbers_of n b))
   where
-    go : (f : Found) → Swept (kept_by f n k (numbers_of n b) (worked_of n b).work (bands_stuck n (tridiagonal_of n b)))
-    go (At t) = tt
-    go Nothing = worked-swept n b
+    go : (f : Option ℕ) → Swept (kept_by f n k (numbers_of n b) (worked_of n b).work (bands_stuck n (tridiagonal_of n b)))
+    go (Some t) = tt
+    go None = worked-swept n b
 
 spectrum-swept : (x : List Float) (inverse : List (List Float)) (n k : ℕ) → Swept (spectrum_of x inverse n k)
 unfolding spectrum_of
 spectrum-swept x inverse n k = go (first_bad (mam_of x inverse n k))
   where
-    go : (f : Found) → Swept (spectrum_by f n k (mam_of x inverse n k))
-    go (At t) = tt
-    go Nothing = delivered-swept n k (mam_of x inverse n k)
+    go : (f : Option ℕ) → Swept (spectrum_by f n k (mam_of x inverse n k))
+    go (Some t) = tt
+    go None = delivered-swept n k (mam_of x inverse n k)
 
 -- ONLY SWEEPS: the eigenvalues take no bisection and no evaluation
 pub kept-swept : (x : List Float) (inverse : List (List Float)) (n k : ℕ) (s : Numbers) → spectrum_of x inverse n k ≡ Kept s → (s.work.bisections ≡ 0) × (s.work.evaluations ≡ 0)

@@ -1,15 +1,13 @@
 -- Document 01's table of refusals, row by row in the order tried: when a row is given, and its number and place. A row is asked only where none above it holds.
 -- And when an accepted call is settled (document 02, W-201).
 -- e is the run of n residuals, x the run of k columns; of the rooms only the lengths decide. Definitions only. Assumes nothing.
-use Rattle.std.specs.Prelude.{ℕ, ◌+◌, ◌*◌, ◌≡◌, ◌⊎◌, Bool, true, false, not, ◌&&◌, ◌||◌, cond, List, [], ◌∷◌, ltb, leb, eqb, length, Float}
+use Rattle.std.specs.Prelude.{ℕ, ◌+◌, ◌*◌, ◌≡◌, ◌⊎◌, Bool, true, false, not, ◌&&◌, ◌||◌, cond, List, [], ◌∷◌, ltb, leb, eqb, length, Float, Option, Some, None}
 use Rattle.std.specs.Float.Ieee.{eq, lt, le}
 use Rattle.std.specs.Float.Ieee.Scale.{finite}
 use Rattle.floats.specs.Words.{plus_zero}
 use Rattle.floats.specs.Sums.{sum_run}
 use Rattle.floats.specs.Count.{no_work}
 use Rattle.floats.specs.Search.{first_where, first_bad}
-use Rattle.floats.specs.declared.search.Found.{Found}
-use Rattle.floats.specs.declared.search.Found.TheVariants.{At, Nothing}
 use Rattle.elementary.specs.declared.NormalLaw.{NormalLaw}
 use Rattle.autocorrelation.specs.Statistic.{squares, differences, durbin_watson}
 use Rattle.design.specs.Matrix.{finite_matrix}
@@ -45,13 +43,13 @@ first_given [] = passed
 first_given (r ∷ rest) = cond r.when r.gives (first_given rest)
 
 -- whether a search found something, and where
-abbrev pub found : Found → Bool
-found (At t) = true
-found Nothing = false
+abbrev pub found : Option ℕ → Bool
+found (Some t) = true
+found None = false
 
-abbrev pub found_at : Found → ℕ
-found_at (At t) = t
-found_at Nothing = 0
+abbrev pub found_at : Option ℕ → ℕ
+found_at (Some t) = t
+found_at None = 0
 
 -- whether a run has no number
 abbrev pub empty : List Float → Bool

@@ -16,9 +16,9 @@ pub returns-then-residuals-eq1-clause-value : goal.returns-then-residuals-eq1-cl
 unfolding durbin_watson_answer
 returns-then-residuals-eq1-clause-value c = search rules
 
-pub returns-in-At-clause-value : goal.returns-in-At-clause-value
+pub returns-in-Some-clause-value : goal.returns-in-Some-clause-value
 unfolding durbin_watson_answer
-returns-in-At-clause-value c = search rules
+returns-in-Some-clause-value c = search rules
 
 pub returns-then-squares-clause-value : goal.returns-then-squares-clause-value
 unfolding durbin_watson_answer

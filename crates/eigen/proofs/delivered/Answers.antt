@@ -48,8 +48,8 @@ keep-count-requires c = let pre = c.requires in
     let order = c.order in
     (omega (arith, order.auto.d, ql.auto.d, bands.auto.d, pre.3), omega (arith, pre.5))
 
-pub returns-in-At : goal.returns-in-At
-returns-in-At c = let args = c.args in
+pub returns-in-Some : goal.returns-in-Some
+returns-in-Some c = let args = c.args in
     let pre = c.requires in
     let place = c.place-half in
     let tridiagonalize = c.tridiagonalize in
@@ -60,19 +60,19 @@ returns-in-At c = let args = c.args in
     let w = worked-is args.size.rows args.room.now tridiagonalize.new.a args.d.now args.e.now bands.new.d bands.new.e new.result l pre.3 pre.4 new.ensures place.result place.ensures tridiagonalize.ensures bands.ensures.d_after bands.ensures.e_after in
     let half : place.result ≡ triangle args.size.rows = omega (arith, place.ensures) in
     let v : ql.new.d ≡ numbers_of args.size.rows (whole args.size.rows (take (triangle args.size.rows) args.room.now)) = ql.ensures.d_after ∙ ap (λ s. s.diagonal) w.1 in
-    let f = ap first_bad (sym v) ∙ sym c.in-At.ensures.value in
+    let f = ap first_bad (sym v) ∙ sym c.in-Some.ensures.value in
     let z = number-bad args.size.rows args.size.columns (whole args.size.rows (take (triangle args.size.rows) args.room.now)) _ f in
     record { value = sym z.0; room_after = rw (w.0, half) refl; kept_after = rw z.1 refl }
 
-pub shape_of-room-in-Nothing : goal.shape_of-room-in-Nothing
-shape_of-room-in-Nothing c = let args = c.args in
+pub shape_of-room-in-None : goal.shape_of-room-in-None
+shape_of-room-in-None c = let args = c.args in
     let pre = c.requires in
     let place = c.place-half in
     let tridiagonalize = c.tridiagonalize in
     simp (length-append, length-drop) (omega (arith, tridiagonalize.auto.a, length-take place.result args.room.now, place.ensures, pre.0))
 
-pub returns-in-Nothing : goal.returns-in-Nothing
-returns-in-Nothing c = let args = c.args in
+pub returns-in-None : goal.returns-in-None
+returns-in-None c = let args = c.args in
     let pre = c.requires in
     let place = c.place-half in
     let tridiagonalize = c.tridiagonalize in
@@ -85,6 +85,6 @@ returns-in-Nothing c = let args = c.args in
     let w = worked-is args.size.rows args.room.now tridiagonalize.new.a args.d.now args.e.now bands.new.d bands.new.e new.result l pre.3 pre.4 new.ensures place.result place.ensures tridiagonalize.ensures bands.ensures.d_after bands.ensures.e_after in
     let half : place.result ≡ triangle args.size.rows = omega (arith, place.ensures) in
     let v : ql.new.d ≡ numbers_of args.size.rows (whole args.size.rows (take (triangle args.size.rows) args.room.now)) = ql.ensures.d_after ∙ ap (λ s. s.diagonal) w.1 in
-    let f = ap first_bad (sym v) ∙ sym c.in-Nothing.ensures.value in
+    let f = ap first_bad (sym v) ∙ sym c.in-None.ensures.value in
     let z = numbers-good args.size.rows args.size.columns (whole args.size.rows (take (triangle args.size.rows) args.room.now)) order.new.d f (order.ensures ∙ rw v) in
     record { value = rw (z.0, keep.ensures.count, ql.ensures.work_value.0, ql.ensures.work_value.1, w.1, w.2); room_after = rw (w.0, half) refl; kept_after = rw z.1 keep.ensures.kept_after }

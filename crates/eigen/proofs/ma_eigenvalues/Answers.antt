@@ -16,20 +16,20 @@ mam-found-requires c = let pre = c.requires in (pre.2, pre.0)
 pub slice_bounds-delivered-end : goal.slice_bounds-delivered-end
 slice_bounds-delivered-end c = simp (length-take, length-replicate) (omega arith)
 
-pub slice_bounds-delivered-end-in-Nothing : goal.slice_bounds-delivered-end-in-Nothing
-slice_bounds-delivered-end-in-Nothing c = simp (length-take, length-replicate) (omega arith)
+pub slice_bounds-delivered-end-in-None : goal.slice_bounds-delivered-end-in-None
+slice_bounds-delivered-end-in-None c = simp (length-take, length-replicate) (omega arith)
 
 pub delivered-requires : goal.delivered-requires
 delivered-requires c = let pre = c.requires in
     (omega (arith, c.mam-found.auto.room, triangle-twice c.args.size.rows, pre.2), pre.0.0, pre.1, simp (length-take, length-replicate) (omega (arith, pre.0.0)), simp (length-take, length-replicate) (omega (arith, pre.0.0)), pre.3)
 
-pub returns-in-At : goal.returns-in-At
-returns-in-At c = let args = c.args in
+pub returns-in-Some : goal.returns-in-Some
+returns-in-Some c = let args = c.args in
     let mam = c.mam-found in
-    let z = matrix-bad args.columns.now args.inverse args.size.rows args.size.columns _ (sym mam.ensures.value ∙ c.in-At.is) in record { value = sym z.0; kept_after = rw z.1 refl; room_after = rw z.2 mam.ensures.room_after }
+    let z = matrix-bad args.columns.now args.inverse args.size.rows args.size.columns _ (sym mam.ensures.value ∙ c.in-Some.is) in record { value = sym z.0; kept_after = rw z.1 refl; room_after = rw z.2 mam.ensures.room_after }
 
-pub returns-in-Nothing : goal.returns-in-Nothing
-returns-in-Nothing c = let args = c.args in
+pub returns-in-None : goal.returns-in-None
+returns-in-None c = let args = c.args in
     let mam = c.mam-found in
     let delivered = c.delivered in
     let p = product args.columns.now args.inverse args.size.rows args.size.columns in
@@ -37,5 +37,5 @@ returns-in-Nothing c = let args = c.args in
     let o = length-half (entry args.size.rows m) args.size.rows in
     let f : whole args.size.rows (take (triangle args.size.rows) mam.new.room) ≡ m = ap (λ l. whole args.size.rows (take (triangle args.size.rows) l)) mam.ensures.room_after ∙ ap (whole args.size.rows) (take_at (half_of args.size.rows m) _ (triangle args.size.rows) o) ∙ whole-half args.size.rows m (length-symmetric args.size.rows p) (is-symmetric args.size.rows p) in
     let g = ap (drop (triangle args.size.rows)) mam.ensures.room_after ∙ drop_at (half_of args.size.rows m) _ (triangle args.size.rows) o in
-    let z = matrix-good args.columns.now args.inverse args.size.rows args.size.columns (sym mam.ensures.value ∙ c.in-Nothing.is) in
+    let z = matrix-good args.columns.now args.inverse args.size.rows args.size.columns (sym mam.ensures.value ∙ c.in-None.is) in
     record { value = delivered.ensures.value ∙ rw f (sym z.0); kept_after = rw z.1 (rw f at delivered.ensures.kept_after); room_after = rw z.2 (rw (f, g) at delivered.ensures.room_after) }

@@ -2,10 +2,10 @@ use mathlib.Core.Bool.{not}
 use lib.Dec.{T}
 use lib.Ieee.{binary64, fits}
 use lib.Ieee.Scale.{finite}
+use Rattle.std.specs.Prelude.{None}
 use Rattle.floats.specs.Words.{◌‼◌}
 use Rattle.floats.specs.Search.{first_where, first_bad}
 use Rattle.floats.specs.Held.{all?}
-use Rattle.floats.specs.declared.search.Found.TheVariants.{Nothing}
 use Rattle.floats.proofs.FirstLaws.{first-at, first-not}
 use Rattle.floats.proofs.HeldLaws.{all-next}
 use Prim.Native.Nat.{◌≤◌, ◌-◌}
