@@ -16,7 +16,7 @@ use Rattle.imhof.specs.declared.Standing.{Standing}
 use Rattle.imhof.specs.declared.Standing.TheVariants.{Open, Settled, Refused}
 use Rattle.imhof.specs.Rule.{gk15_of}
 use Rattle.imhof.specs.Parts.{most_bisections, most_parts, worst_of, bisected_at, finite_part, Stage, stage, one_rule, next_stage, stage_after}
-use Rattle.std.specs.Prelude.{Ok, Err}
+use Rattle.std.specs.Prelude.{Ok}
 use Rattle.imhof.specs.Imhof.{integral_of, quadrature_of}
 use Rattle.imhof.specs.Room.{PartRoom, stored, laid_out, parts_in}
 use Rattle.imhof.proofs.RoomLaws.{laid_more, laid-over, laid_in, in-laid, length-in}

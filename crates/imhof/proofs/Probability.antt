@@ -18,7 +18,7 @@ use Rattle.weights.specs.Range.{low_end, high_end}
 use Rattle.imhof.specs.declared.Part.{Part}
 use Rattle.imhof.specs.declared.Standing.{Standing}
 use Rattle.imhof.specs.declared.Standing.TheVariants.{Open, Settled, Refused}
-use Rattle.imhof.specs.Quadrature.{Quadrature, broken}
+use Rattle.imhof.specs.Quadrature.{Quadrature}
 use Rattle.std.specs.Prelude.{Result, Ok, Err}
 use Rattle.imhof.specs.declared.Estimate.{Estimate}
 use Rattle.imhof.specs.declared.ExactError.{ExactError}

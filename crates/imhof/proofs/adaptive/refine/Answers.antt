@@ -1,4 +1,4 @@
-use Rattle.imhof.specs.declared.Standing.TheVariants.{Settled, Refused}
+use Rattle.imhof.specs.declared.Standing.TheVariants.{Refused}
 use Rattle.imhof.specs.Imhof.{quadrature_of}
 use Rattle.imhof.specs.Integrand.{integrand_of}
 use Rattle.imhof.specs.Parts.{most_parts, one_rule}
@@ -9,7 +9,7 @@ use Rattle.imhof.proofs.HeldLaws.{Held, Answered, held_first, held_next, held_al
 use mathlib.Core.Path.{subst}
 use Prim.Native.Nat.{◌+◌}
 use native.Mathlib.Omega.{arith}
-use mathlib.Core.Path.{◌≡◌, refl, ap, sym, ◌∙◌}
+use mathlib.Core.Path.{◌≡◌, ap, sym, ◌∙◌}
 use Rattle.imhof.proofs.adaptive.refine.Invariants.{first}
 use Rattle.imhof.proofs.adaptive.refine.Goals as goal
 

@@ -2,8 +2,8 @@ use mathlib.Core.List.{List}
 use lib.Ieee.{Float}
 use Rattle.imhof.specs.declared.Standing.TheVariants.{Open}
 use Rattle.imhof.specs.Integrand.{integrand_of}
-use Rattle.imhof.specs.Parts.{most_parts, Stage, stage, one_rule}
-use Rattle.imhof.specs.Room.{PartRoom, parts_in}
+use Rattle.imhof.specs.Parts.{Stage, stage, one_rule}
+use Rattle.imhof.specs.Room.{parts_in}
 use Rattle.imhof.specs.Rule.{rule_size}
 use Rattle.floats.specs.Count.{no_work}
 use Rattle.imhof.proofs.HeldLaws.{Held}
