@@ -15,7 +15,6 @@ use lib.IntN.{ℤ, nat_abs, ◌-ℤ◌}
 use lib.Ieee.{Float, eq}
 use lib.Ieee.Scale.{finite}
 use lib.Ieee.Fits.{and_l, and_r}
-use Rattle.std.specs.Prelude.{Option, Some, None}
 use Rattle.floats.specs.Words.{◌‼◌, plus_zero}
 use Rattle.floats.specs.Search.{first_bad}
 use Rattle.std.specs.Prelude.{Option, Some, None, Result, Ok, Err}

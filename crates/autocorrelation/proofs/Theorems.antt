@@ -13,7 +13,6 @@ use lib.Ieee.{Float, binary64, eq, le, fits, of_bits}
 use lib.Ieee.Exact.{HasValue}
 use lib.Ieee.Order.{le_of_values}
 use lib.Ieee.Scale.{finite}
-use Rattle.std.specs.Prelude.{None}
 use Rattle.floats.specs.Words.{◌‼◌, plus_zero}
 use Rattle.floats.specs.Search.{first_bad}
 use Rattle.std.specs.Prelude.{None, Result, Ok}

@@ -8,7 +8,6 @@ use lib.Dec.{ltb, eqb}
 use lib.ListN.{length}
 use lib.Ieee.{Float}
 use borrow.Author.Tests.{ltb-false, eqb-true, eqb-false}
-use Rattle.std.specs.Prelude.{Option, Some, None}
 use Rattle.floats.specs.Limits.{max_rows, max_columns}
 use Rattle.floats.specs.Search.{first_bad}
 use Rattle.std.specs.Prelude.{Option, Some, None, Result, Ok, Err}

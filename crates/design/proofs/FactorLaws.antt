@@ -5,7 +5,6 @@ use Prim.Native.Nat.{ℕ, ◌+◌}
 use native.Mathlib.Numerals.{add-one}
 use lib.ListN.{set}
 use lib.Ieee.{Float}
-use Rattle.std.specs.Prelude.{None}
 use Rattle.floats.specs.Words.{◌⊘◌}
 use Rattle.floats.specs.Turns.{turns}
 use Rattle.design.specs.Matrix.{Matrix, row_at, entry, zero_row, zero_matrix}

@@ -19,7 +19,7 @@ use Rattle.design.specs.declared.FailedPivot.{FailedPivot}
 use Rattle.design.specs.declared.LawError.{LawError}
 
 -- the pivot answer, and what the lent matrix holds at the end
-pub pivots-single : (x : List Float) (n k : ℕ) (r s : Result Unit FailedPivot) → r ≡ pivots_of x n k → s ≡ pivots_of x n k → r ≡ s
+pub pivots-single : (x : List Float) (n k : ℕ) (r s : Result (Unit {0}) FailedPivot) → r ≡ pivots_of x n k → s ≡ pivots_of x n k → r ≡ s
 pivots-single x n k r s = both
 
 pub factor-single : (x : List Float) (n k : ℕ) (l m : Matrix) → l ≡ factor_of x n (rows_made k (pivots_of x n k)) → m ≡ factor_of x n (rows_made k (pivots_of x n k)) → l ≡ m

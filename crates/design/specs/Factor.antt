@@ -56,15 +56,15 @@ unfoldable pub fails_at : List Float → ℕ → ℕ → Bool
 fails_at x n i = fails x n i (left_of x n (factor_of x n i) i)
 
 -- the answer for what a search for failing pivots found
-abbrev pub pivots_by : Option ℕ → Result Unit FailedPivot
+abbrev pub pivots_by : Option ℕ → Result (Unit {0}) FailedPivot
 pivots_by (Some i) = Err (record { 0 = i })
 pivots_by None = Ok tt
 
 -- whether all k pivots hold, or the first that fails
-unfoldable pub pivots_of : List Float → ℕ → ℕ → Result Unit FailedPivot
+unfoldable pub pivots_of : List Float → ℕ → ℕ → Result (Unit {0}) FailedPivot
 pivots_of x n k = pivots_by (first_where k (fails_at x n))
 
 -- how many rows of the factor are made: all k, or those above the pivot that fails
-abbrev pub rows_made : ℕ → Result Unit FailedPivot → ℕ
+abbrev pub rows_made : ℕ → Result (Unit {0}) FailedPivot → ℕ
 rows_made k (Ok done) = k
 rows_made k (Err failed) = failed.0
