@@ -87,10 +87,13 @@ more_rows n k h = go (leb n k) refl h
     go false e r = nleb→lt n k (untruth (leb n k) e)
 
 -- both rooms are long enough
+abbrev suffice : Result (Unit {0}) TestError
+suffice = Ok tt
+
 pub rooms-fit : (wanted m p : ℕ) → passes (room_refusal wanted m p) ≡ true → (wanted ≤ m) × (part_room ≤ p)
 rooms-fit wanted m p h = go (ltb m wanted) refl (ltb p part_room) refl h
   where
-    go : (a : Bool) → ltb m wanted ≡ a → (b : Bool) → ltb p part_room ≡ b → passes (refusal_in (cond a (Err MatrixRoom) (cond b (Err PartRoom) (Ok tt)))) ≡ true → (wanted ≤ m) × (part_room ≤ p)
+    go : (a : Bool) → ltb m wanted ≡ a → (b : Bool) → ltb p part_room ≡ b → passes (refusal_in (cond a (Err MatrixRoom) (cond b (Err PartRoom) suffice))) ≡ true → (wanted ≤ m) × (part_room ≤ p)
     go true q b r s = absurd (true≢false (sym s))
     go false q true r s = absurd (true≢false (sym s))
     go false q false r s = (nltb→le m wanted (untruth (ltb m wanted) q), nltb→le p part_room (untruth (ltb p part_room) r))
