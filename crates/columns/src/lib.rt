@@ -1,9 +1,9 @@
 // The size of a sheet, and the checks of its columns. The k columns of n rows are one run, column after column.
 #![tactic(auto)]
 
-ghost use Rattle.std.specs.Prelude.{◌≡◌, ◌≤◌};
+ghost use Rattle.std.specs.Prelude.{◌≡◌, ◌≤◌, MatchResult};
 ghost use Rattle.floats.specs.Limits.{max_rows, max_columns};
-ghost use Rattle.columns.specs.Sheet.{size_of, over, run_of, columns_of, too_few_rows};
+ghost use Rattle.columns.specs.Sheet.{size_of, over, run_of, columns_of, too_few_rows, Design};
 
 use floats::limits::{MAX_COLUMNS, MAX_ROWS};
 use floats::search::first_bad;
@@ -86,6 +86,24 @@ fn check_run(columns: &[f64], size: SheetSize) -> Result<SheetSize, ColumnsError
     match first_bad(columns) {
         Some(t) => Err(ColumnsError::NotFinite(t)),
         None => Ok(size),
+    }
+}
+
+// Sound columns with their size: k columns of n rows within the limits.
+#[derive(Clone, Copy)]
+pub struct Sheet<'a> {
+    pub run: &'a [f64],
+    pub size: SheetSize,
+    pub ghost design: { Design size run.now },
+}
+
+impl<'a> Sheet<'a> {
+    // The sheet, or what is wrong with its columns.
+    pub fn new(run: &'a [f64], n: usize, k: usize) -> Result<Sheet<'a>, ColumnsError>
+        ensures { MatchResult result (λ sheet. (sheet.run ≡ run.entry) × (columns_of run.entry.now n k ≡ Ok sheet.size)) (λ why. columns_of run.entry.now n k ≡ Err why) }
+    {
+        let size = check_columns(run, n, k)?;
+        Ok(Sheet { run, size })
     }
 }
 
