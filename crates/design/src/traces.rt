@@ -3,12 +3,11 @@ ghost use Rattle.std.specs.Prelude.{◌≡◌, ◌+◌, ◌*◌, ◌≤◌, ◌<
 ghost use Rattle.floats.specs.Limits.{max_rows, max_columns};
 ghost use Rattle.floats.specs.Sums.{sum_of, sum_products};
 ghost use Rattle.floats.specs.Words.{◌⊗◌};
-ghost use Rattle.columns.specs.Sheet.{Design};
 ghost use Rattle.design.specs.Matrix.{entry, row, matrix, product_of, trace_of};
 ghost use Rattle.design.specs.Law.{count, law_by, law_from};
 
 use super::Matrix;
-use columns::SheetSize;
+use columns::{Sheet, SheetSize};
 use elementary::NormalLaw;
 use floats::limits::MAX_COLUMNS;
 
@@ -131,13 +130,14 @@ fn law_by(b: f64, c: f64, bb: f64, size: SheetSize) -> NormalLaw
 }
 
 // The law of the columns, with room for A X.
-pub fn law_in(columns: &[f64], size: SheetSize, inverse: &Matrix, room: &mut [f64]) -> NormalLaw
-    requires { (Design size columns.now) × (size.columns * size.rows ≤ length room.old) }
-    ensures { result ≡ law_from columns.now size.rows size.columns inverse.now }
+pub fn law_in(sheet: Sheet, inverse: &Matrix, room: &mut [f64]) -> NormalLaw
+    requires { length sheet.run.now ≤ length room.old }
+    ensures { result ≡ law_from sheet.entry.run.now sheet.entry.size.rows sheet.entry.size.columns inverse.now }
 {
+    let size = sheet.size;
     let k = size.columns;
-    super::difference::difference_columns(columns, size, room);
-    let b = product(&cross(columns, room, size), inverse, k);
+    super::difference::difference_columns(sheet.run, size, room);
+    let b = product(&cross(sheet.run, room, size), inverse, k);
     let c = cross(room, room, size);
     law_by(
         trace(&b, k),
