@@ -2,7 +2,7 @@ use mathlib.Core.Path.{◌∙◌}
 use Rattle.imhof.specs.Integrand.{integrand_of}
 use Rattle.imhof.specs.Rule.{middle_of}
 use Rattle.imhof.proofs.RuleLaws.{rule-reads}
-use Rattle.imhof.proofs.rule.gk15_by.Goals as goal
+use Rattle.imhof.proofs.rule.gk15.Goals as goal
 
 pub returns : goal.returns
 returns c = let s = c.args in
