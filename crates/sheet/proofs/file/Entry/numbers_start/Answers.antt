@@ -2,9 +2,9 @@
 use Prim.Native.Nat.{◌*◌, ◌≤◌}
 use native.Mathlib.Omega.{arith}
 use Rattle.sheet.proofs.Sizes.{position-count-below}
-use Rattle.sheet.proofs.file.numbers_start.Goals as goal
+use Rattle.sheet.proofs.file.Entry.numbers_start.Goals as goal
 
-few : (c : goal.After-struct_known-2-1) → c.args.e.rows * c.args.e.positions ≤ 16777216
+few : (c : goal.After-struct_known-2-1) → c.args.self.rows * c.args.self.positions ≤ 16777216
 few c = position-count-below (omega arith) (omega arith)
 
 pub overflow_mul-result : goal.overflow_mul-result
