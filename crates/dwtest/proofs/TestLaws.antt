@@ -22,7 +22,7 @@ use Rattle.design.specs.Inverse.{inverse_of}
 use Rattle.design.specs.declared.FailedPivot.{FailedPivot}
 use Rattle.design.specs.declared.LawError.{LawError}
 use Rattle.elementary.specs.declared.NormalLaw.{NormalLaw}
-use Rattle.outcome.specs.Refusals.{passes, first_of, refusal_of, refusal_in, columns_refusal, statistic_refusal, rows_refusal, pivots_refusal, inverse_refusal, rooms_of, room_refusal}
+use Rattle.outcome.specs.Refusals.{passed, passes, first_of, refusal_of, refusal_in, columns_refusal, statistic_refusal, rows_refusal, pivots_refusal, inverse_refusal, rooms_of, room_refusal}
 use Rattle.outcome.specs.Result.{least_rows, wants_exact, no_law, direct, refused_of, outcome_in, accepted_of}
 use Rattle.outcome.specs.declared.Alternative.{Alternative}
 use Rattle.outcome.specs.declared.Asked.{Asked}
@@ -34,6 +34,7 @@ use Rattle.outcome.proofs.PassLaws.{reason-refuses, inverse-alone}
 use Rattle.dwtest.specs.Layout.{design_checks, Layout, layout_from, layout_of}
 use Rattle.dwtest.specs.Verdict.{by_spectrum, finish, normal_path, exact_path}
 use Rattle.dwtest.specs.declared.Way.TheVariants.{Few, Exact, Normal}
+use Rattle.dwtest.specs.declared.verdict.Said.{Said}
 use Rattle.dwtest.specs.Test.{asking, is_exact, exact_by, said_by, way_of, answer_of, design_of, design_touches, test_with, touched_with}
 
 -- what is told of a test that ends with a reason
@@ -79,6 +80,13 @@ module _ (wanted : ℕ → ℕ) (x : List Float) (n k : ℕ) (asked : Asked) (ch
   pub design-passes : passes (first_of (design_checks x n k)) ≡ true → Decided (answer_of wanted n (layout_of x n k) asked choice matrix parts) (is_exact (way_of wanted n choice matrix parts))
   unfolding design_of
   design-passes q = rw q (refl, refl)
+
+  -- where an inverse is the columns' and nothing is refused, what is said of it decides
+  pub design-said : (i : Matrix) (said : Said) → passed ≡ first_of (design_checks x n k) → i ≡ inverse_of x n k → said ≡ said_by (way_of wanted n choice matrix parts) (layout_from x n k i) asked
+      → Decided (finish (layout_of x n k).law asked said) (is_exact (way_of wanted n choice matrix parts))
+  design-said i said pass inv told =
+      let s = design-passes (ap passes (sym pass)) in
+      (s.0 ∙ sym (ap (finish (layout_of x n k).law asked) (told ∙ ap (λ i. said_by (way_of wanted n choice matrix parts) (layout_from x n k i) asked) inv)), s.1)
 
   -- 11
   pub pivot-fails : (p : Result (Unit {0}) FailedPivot) → pivots_of x n k ≡ p → passes (pivots_refusal p) ≡ false → Decided (refused_of (pivots_refusal p)) false

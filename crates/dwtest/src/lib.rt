@@ -6,7 +6,6 @@
 ghost use Rattle.std.specs.Prelude.{◌≡◌, true, ◌++◌, ◌≤◌, ◌<◌, length, drop, replicate};
 ghost use Rattle.floats.specs.Words.{plus_zero};
 ghost use Rattle.floats.specs.Limits.{max_rows};
-ghost use Rattle.columns.specs.Sheet.{Design};
 ghost use Rattle.imhof.specs.Room.{PartRoom};
 ghost use Rattle.outcome.specs.Result.{outcome_in};
 ghost use Rattle.outcome.specs.Rooms.{room_of, part_room, cleared_of};
@@ -18,7 +17,7 @@ ghost use Rattle.dwtest.specs.Vouched.{Vouched};
 mod layout;
 mod verdict;
 
-use columns::SheetSize;
+use columns::Sheet;
 use design::Matrix;
 use floats::limits::MAX_ROWS;
 use outcome::refusals::{TestError, check_rooms, check_rows};
@@ -62,70 +61,67 @@ fn clear(room: &mut [f64], m: usize)
 
 // The exact way: the eigenvalues, which the columns decide, then what the statistic makes of them. Both rooms are cleared.
 fn exact(
-    columns: &[f64],
-    size: SheetSize,
+    sheet: Sheet,
     inverse: Matrix,
     asked: Asked,
     matrix: &mut [f64],
     parts: &mut [f64],
 ) -> Result<Said, TestError>
-    requires { (Design size columns.now) × (size.columns < size.rows) × (room_of size.rows ≤ length matrix.old) × (PartRoom parts.old) }
-    ensures value { said_in result ≡ by_spectrum (layout_from columns.now size.rows size.columns inverse).spectrum (layout_from columns.now size.rows size.columns inverse).kept asked }
-    ensures matrix_after { matrix.new ≡ cleared_of true (room_of size.rows) matrix.old }
+    requires { (sheet.size.columns < sheet.size.rows) × (room_of sheet.size.rows ≤ length matrix.old) × (PartRoom parts.old) }
+    ensures value { said_in result ≡ by_spectrum (layout_from sheet.entry.run.now sheet.entry.size.rows sheet.entry.size.columns inverse).spectrum (layout_from sheet.entry.run.now sheet.entry.size.rows sheet.entry.size.columns inverse).kept asked }
+    ensures matrix_after { matrix.new ≡ cleared_of true (room_of sheet.entry.size.rows) matrix.old }
     ensures parts_after { parts.new ≡ cleared_of true part_room parts.old }
 {
     let mut kept = [0.0f64; MAX_ROWS];
-    let spectrum = eigen::ma_eigenvalues(columns, size, inverse, matrix, &mut kept);
+    let spectrum = eigen::ma_eigenvalues(sheet.run, sheet.size, inverse, matrix, &mut kept);
     let said = verdict::by_spectrum(spectrum, &kept, asked, parts);
-    clear(matrix, matrix_room(size.rows));
+    clear(matrix, matrix_room(sheet.size.rows));
     clear(parts, imhof::PART_ROOM);
     said
 }
 
 // What is said before any law is worked out: an answer, or that the law is due.
 fn said_of(
-    columns: &[f64],
-    size: SheetSize,
+    sheet: Sheet,
     inverse: Matrix,
     asked: Asked,
     choice: Choice,
     matrix: &mut [f64],
     parts: &mut [f64],
 ) -> Result<Said, TestError>
-    requires { (Design size columns.now) × (size.columns < size.rows) }
-    ensures value { said_in result ≡ said_by (way_of room_of size.rows choice (length matrix.old) (length parts.old)) (layout_from columns.now size.rows size.columns inverse) asked }
-    ensures matrix_after { matrix.new ≡ cleared_of (is_exact (way_of room_of size.rows choice (length matrix.old) (length parts.old))) (room_of size.rows) matrix.old }
-    ensures parts_after { parts.new ≡ cleared_of (is_exact (way_of room_of size.rows choice (length matrix.old) (length parts.old))) part_room parts.old }
+    requires { sheet.size.columns < sheet.size.rows }
+    ensures value { said_in result ≡ said_by (way_of room_of sheet.entry.size.rows choice (length matrix.old) (length parts.old)) (layout_from sheet.entry.run.now sheet.entry.size.rows sheet.entry.size.columns inverse) asked }
+    ensures matrix_after { matrix.new ≡ cleared_of (is_exact (way_of room_of sheet.entry.size.rows choice (length matrix.old) (length parts.old))) (room_of sheet.entry.size.rows) matrix.old }
+    ensures parts_after { parts.new ≡ cleared_of (is_exact (way_of room_of sheet.entry.size.rows choice (length matrix.old) (length parts.old))) part_room parts.old }
 {
-    match way_of(size.rows, choice, matrix.len(), parts.len())? {
+    match way_of(sheet.size.rows, choice, matrix.len(), parts.len())? {
         Way::Few => {
             let outcome = accepted(asked, 1.0, Path::FewRows, direct(), no_law());
             Ok(Said::Answered(outcome))
         }
-        Way::Exact => exact(columns, size, inverse, asked, matrix, parts),
+        Way::Exact => exact(sheet, inverse, asked, matrix, parts),
         Way::Normal => Ok(verdict::to_law(asked, direct())),
     }
 }
 
 // A sheet whose runs are checked: what its columns decide, then what its statistic does. The law is worked out where it is due.
 fn test_design(
-    columns: &[f64],
-    size: SheetSize,
+    sheet: Sheet,
     asked: Asked,
     choice: Choice,
     matrix: &mut [f64],
     parts: &mut [f64],
 ) -> Result<Outcome, TestError>
-    requires { (Design size columns.now) × (size.columns < size.rows) }
-    ensures value { outcome_in result ≡ design_of room_of columns.now size.rows size.columns asked choice (length matrix.old) (length parts.old) }
-    ensures matrix_after { matrix.new ≡ cleared_of (design_touches room_of columns.now size.rows size.columns choice (length matrix.old) (length parts.old)) (room_of size.rows) matrix.old }
-    ensures parts_after { parts.new ≡ cleared_of (design_touches room_of columns.now size.rows size.columns choice (length matrix.old) (length parts.old)) part_room parts.old }
+    requires { sheet.size.columns < sheet.size.rows }
+    ensures value { outcome_in result ≡ design_of room_of sheet.entry.run.now sheet.entry.size.rows sheet.entry.size.columns asked choice (length matrix.old) (length parts.old) }
+    ensures matrix_after { matrix.new ≡ cleared_of (design_touches room_of sheet.entry.run.now sheet.entry.size.rows sheet.entry.size.columns choice (length matrix.old) (length parts.old)) (room_of sheet.entry.size.rows) matrix.old }
+    ensures parts_after { parts.new ≡ cleared_of (design_touches room_of sheet.entry.run.now sheet.entry.size.rows sheet.entry.size.columns choice (length matrix.old) (length parts.old)) part_room parts.old }
 {
-    let inverse = layout::invert(columns, size)?;
-    match said_of(columns, size, inverse, asked, choice, matrix, parts)? {
+    let inverse = layout::invert(sheet)?;
+    match said_of(sheet, inverse, asked, choice, matrix, parts)? {
         Said::Answered(outcome) => Ok(outcome),
         Said::LawDue(left) => {
-            let law = layout::law_of(columns, size, inverse)?;
+            let law = layout::law_of(sheet, inverse)?;
             Ok(verdict::by_law(law, asked, left))
         }
     }
@@ -146,15 +142,15 @@ fn test(
     ensures parts_after { parts.new ≡ cleared_of (touched residuals.now columns.now k choice (length matrix.old) (length parts.old)) part_room parts.old }
     ensures vouched { Vouched (outcome_in result) residuals.now }
 {
-    let size = columns::check_columns(columns, residuals.len(), k)?;
+    let sheet = Sheet::new(columns, residuals.len(), k)?;
     let statistic = autocorrelation::durbin_watson(residuals)?;
-    check_rows(size)?;
+    check_rows(sheet.size)?;
     let asked = Asked {
         statistic,
         alternative,
-        rows: size.rows,
+        rows: sheet.size.rows,
     };
-    test_design(columns, size, asked, choice, matrix, parts)
+    test_design(sheet, asked, choice, matrix, parts)
 }
 
 // The test. `columns` is k columns of as many numbers as there are residuals, one after another. The rooms are lent for the exact path: n (n + 1) numbers

@@ -14,7 +14,13 @@ alternative_of code = cond (eqb code 0) Greater (cond (eqb code 1) Less TwoSided
 abbrev pub choice_of : ℕ → Choice
 choice_of code = cond (eqb code 0) Default (cond (eqb code 1) Exact Normal)
 
--- the same where the code is one of these three
+-- the code of an alternative
+abbrev pub code_of : Alternative → ℕ
+code_of Greater = 0
+code_of Less = 1
+code_of TwoSided = 2
+
+-- what a code means where it is one of these three
 abbrev pub unknown : ℕ → UnknownCode
 unknown code = record { 0 = code }
 

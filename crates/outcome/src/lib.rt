@@ -3,7 +3,7 @@
 #![tactic(auto)]
 
 ghost use Rattle.std.specs.Prelude.{◌≡◌};
-ghost use Rattle.outcome.specs.Codes.{alternative_of, choice_of, alternative_in, choice_in};
+ghost use Rattle.outcome.specs.Codes.{alternative_of, choice_of, code_of, alternative_in, choice_in};
 ghost use Rattle.outcome.specs.Result.{path_number, no_law, direct, fallen_back, worked_out, refused_of, accepted_of, wants_exact};
 
 pub mod p;
@@ -119,6 +119,19 @@ impl TryFrom<u32> for Alternative {
         match code {
             0..=2 => Ok(alternative_of(u64::from(code))),
             _ => Err(UnknownCode(code)),
+        }
+    }
+}
+
+// Back to its code.
+impl From<Alternative> for u32 {
+    ghost from_gives = { λ alternative code. code ≡ code_of alternative };
+
+    fn from(alternative: Alternative) -> u32 {
+        match alternative {
+            Alternative::Greater => 0,
+            Alternative::Less => 1,
+            Alternative::TwoSided => 2,
         }
     }
 }

@@ -14,5 +14,5 @@ returns-in_err-factor-clause-refusal c =
 pub returns-clause-refusal : goal.returns-clause-refusal
 returns-clause-refusal c = let args = c.args in
     let hold = sym c.in_ok-factor.ensures.value in
-    let inv = c.inverse_of_factor.ensures ∙ ap (λ z. inverse_from z args.size.columns) (c.in_ok-factor.ensures.l_after ∙ ap (λ p. factor_of args.columns.now args.size.rows (rows_made args.size.columns p)) hold) in
-    c.check_inverse.ensures.refusal ∙ ap (inverse_refusal args.size.columns) inv ∙ sym (past-pivots args.columns.now args.size.rows args.size.columns hold)
+    let inv = c.inverse_of_factor.ensures ∙ ap (λ z. inverse_from z args.sheet.size.columns) (c.in_ok-factor.ensures.l_after ∙ ap (λ p. factor_of args.sheet.run.now args.sheet.size.rows (rows_made args.sheet.size.columns p)) hold) in
+    c.check_inverse.ensures.refusal ∙ ap (inverse_refusal args.sheet.size.columns) inv ∙ sym (past-pivots args.sheet.run.now args.sheet.size.rows args.sheet.size.columns hold)
