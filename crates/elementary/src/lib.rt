@@ -15,7 +15,7 @@ mod polynomials;
 mod sine;
 mod tails;
 
-ghost use Rattle.std.specs.Prelude.{◌≡◌, length};
+ghost use Rattle.std.specs.Prelude.{◌≡◌};
 ghost use Rattle.elementary.specs.Exp.{exp_of};
 ghost use Rattle.elementary.specs.Ln.{ln_of, ln1p_by, ln1p_of};
 ghost use Rattle.elementary.specs.Atan.{atan_by, atan_of};
@@ -27,7 +27,7 @@ use exponential::{exp_reduced, scaled};
 use floats::bits::bits_of;
 use logarithm::{ln_normal, ln_rest};
 use near::{log_near, place};
-use points::points;
+use points::POINTS;
 use roots::sqrt;
 use sine::sin_reduced;
 use tails::tail_beyond;
@@ -77,12 +77,11 @@ pub fn ln(x: f64) -> f64
 pub fn ln_1p(x: f64) -> f64
     ensures { result ≡ ln1p_of x }
 {
-    ln_1p_by(&points(), x)
+    ln_1p_by(&POINTS, x)
 }
 
 // The same with the table lent.
-pub fn ln_1p_by(points: &[f64], x: f64) -> f64
-    requires { length points.now ≡ 384 }
+pub fn ln_1p_by(points: &[f64; 384], x: f64) -> f64
     ensures { result ≡ ln1p_by points.now x }
 {
     if x >= 0.0 {
@@ -115,12 +114,11 @@ pub fn ln_1p_by(points: &[f64], x: f64) -> f64
 pub fn atan(x: f64) -> f64
     ensures { result ≡ atan_of x }
 {
-    atan_by(&points(), x)
+    atan_by(&POINTS, x)
 }
 
 // The same with the table lent.
-pub fn atan_by(points: &[f64], x: f64) -> f64
-    requires { length points.now ≡ 384 }
+pub fn atan_by(points: &[f64; 384], x: f64) -> f64
     ensures { result ≡ atan_by points.now x }
 {
     if floats::signs::is_minus(x) {
