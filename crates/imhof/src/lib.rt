@@ -29,7 +29,7 @@ pub const MOST_PARTS: usize = MOST_BISECTIONS + 1;
 pub const PART_ROOM: usize = 4 * MOST_PARTS;
 
 // A part of the range: its ends, its integral by Kronrod's rule, and the distance from Gauss's.
-#[derive(Clone, Copy)]
+#[derive(Clone, Copy, Default)]
 pub struct Part {
     pub lo: f64,
     pub hi: f64,
