@@ -390,7 +390,7 @@ pub static POINTS: [f64; 384] = [
     15.182482060410853, // 402e5d6e49e32483
 ];
 
-// The table, as a copy: the compiler makes one at each use of a constant array, so a loop is lent it.
+// The table, as a copy. `POINTS` can be lent with none.
 pub fn points() -> [f64; 384]
     ensures { result ≡ points }
 {
