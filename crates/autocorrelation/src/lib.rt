@@ -21,16 +21,15 @@ fn sum_squared_differences(e: &[f64]) -> f64
     requires { 1 ≤ length e.now }
     ensures { result ≡ differences e.now }
 {
-    let mut s = -0.0f64;
-    for t in 0..e.len() - 1 {
-        let d = e[t + 1] - e[t];
+    e.iter().zip(&e[1..]).fold(-0.0, |s, (before, here)| {
+        let d = *here - *before;
         // the Rust's powi(2): one product
-        s = s + d * d;
-    }
-    s
+        s + d * d
+    })
 }
 
 // Durbin and Watson's d, the statistic that R's `lmtest::dwtest` reports.
+#[tactic(auto, unfolding(crate::specs::Statistic::durbin_watson_answer))]
 pub fn durbin_watson(residuals: &[f64]) -> Result<f64, StatisticError>
     ensures value { result ≡ durbin_watson_answer residuals.now }
     ensures told { Told result residuals.now }
