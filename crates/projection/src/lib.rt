@@ -238,11 +238,7 @@ pub fn mam(room: &mut [f64], x: &[f64], inv: Matrix, size: SheetSize) -> Option<
     ensures value { result ≡ first_bad (half_of size.rows (mam_of x.now inv size.rows size.columns)) }
     ensures room_after { room.new ≡ half_of size.rows (mam_of x.now inv size.rows size.columns) ++ (half_of size.rows (residual_maker x.now inv size.rows size.columns) ++ drop (matrix_room size.rows) room.old) }
 {
-    let fit = Fit {
-        x,
-        inv: &inv,
-        size,
-    };
+    let fit = Fit { x, inv: &inv, size };
     fit.fill_room(room);
     let searched = halves::place(size.rows, 0);
     floats::search::first_bad(&room[..searched])
