@@ -137,7 +137,7 @@ def read(place):
 
 def of_source(place, name, complaints):
     """The numbers of an array of a source, each on a line with its bits beside it."""
-    found = re.search(r"^const %s: \[f64; (\d+)\] = \[\n(.*?)^\];" % name, read(place), re.DOTALL | re.MULTILINE)
+    found = re.search(r"^(?:const|pub static) %s: \[f64; (\d+)\] = \[\n(.*?)^\];" % name, read(place), re.DOTALL | re.MULTILINE)
     numbers = []
     for line in found[2].splitlines() if found else []:
         entry = re.match(r"\s*(-?\d+\.\d+(?:e-?\d+)?), // ([0-9a-f]{16})\b", line)

@@ -72,9 +72,9 @@ def guess(words, n):
 
 
 def written():
-    """The words that the source has, by part; below the first part they are the first part's."""
+    """The words that the source has, by part."""
     with open(SOURCE, encoding="utf-8") as stream:
-        return dict(enumerate(int(x.replace("_", ""), 0) for x in re.findall(r"=> (\w+),", stream.read())))
+        return dict(enumerate((int(x.replace("_", ""), 0) for x in re.findall(r"\b0x\w+", stream.read())), PARTS[0]))
 
 
 def tried(count):
@@ -100,7 +100,7 @@ def main(args):
             print("%2d 0x%04x_%04x  2^%.2f" % (part, word >> 16, word & 0xFFFF, far_off(word, part)))
         print("largest 2^%.2f" % worst)
         return 0
-    same = written() == {part: words[max(part, PARTS[0])] for part in range(PARTS[-1] + 1)}
+    same = written() == words
     print("lines: %s, off by 2^%.2f at most" % ("the same" if same else "DIFFERENT from the file", worst))
     count = bad = 0
     least, most = math.inf, -math.inf

@@ -1,6 +1,6 @@
 """Rattle without its clauses is Rust. This cuts the clauses out.
 
-Cut: `ghost use ..;` lines, the clauses `requires`, `ensures` and `ghost` with their braces, and the attribute `tactic`.
+Cut: `ghost use ..;` lines, the clauses `requires`, `ensures` and `ghost` with their braces, ghost fields and members, and the attribute `tactic`.
 Opened: private modules, so that a function can be named by its module's path.
 Sent to oracle/standins/rattle_std.rs: what Rattle's std has and Rust's has not, as the runtime that `main` takes, which it is here given at its head.
 Newlines inside what is cut stay, so that rustc's line numbers are those of the .rt file.
@@ -101,7 +101,22 @@ def cut_end(text, word, at):
                 raise StripError("a `ghost use` has no `;`")
             return end + 1
         at = skip_blank(text, following.end())  # the clause's name
+        if word == "ghost" and text[at : at + 1] in (":", "="):
+            return member_end(text, skip_blank(text, at + 1))
     return clause_end(text, at) if text.startswith("{", at) else None
+
+
+def member_end(text, at):
+    """Where a ghost field or member is over whose braces open at `at`, with its proof and the sign behind it; None where none open."""
+    if not text.startswith("{", at):
+        return None
+    at = clause_end(text, at)
+    behind = skip_blank(text, at)
+    proof = WORD.match(text, behind)
+    if proof and proof.group() == "by":
+        at = clause_end(text, skip_blank(text, proof.end()))
+        behind = skip_blank(text, at)
+    return behind + 1 if text[behind : behind + 1] in (",", ";") else at
 
 
 def without_clauses(text):
@@ -139,6 +154,7 @@ def with_host(text):
 
 def to_rust(text):
     """The Rust of one .rt file."""
+    text = re.sub(r"\bpub ghost\b", "ghost", text)
     text = re.sub(r"^([ \t]*)#!?\[tactic\([^\]]*\)\]", r"\1", without_clauses(text), flags=re.M)
     text = re.sub(r"^mod ", "pub mod ", text, flags=re.M)
     return with_host(text)

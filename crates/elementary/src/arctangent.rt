@@ -1,5 +1,5 @@
 // The steps of atan (specs/Atan.antt has the method).
-ghost use Rattle.std.specs.Prelude.{◌≡◌, length};
+ghost use Rattle.std.specs.Prelude.{◌≡◌};
 ghost use Rattle.elementary.specs.Atan.{angle_far, atan_size};
 
 use crate::near::{REACH, angle_near, angle_rest, place};
@@ -18,8 +18,7 @@ fn angle_far(a: f64) -> f64
 }
 
 // atan a, for an a that is not below 0. The table is lent.
-pub fn atan_size(points: &[f64], a: f64) -> f64
-    requires { length points.now ≡ 384 }
+pub fn atan_size(points: &[f64; 384], a: f64) -> f64
     ensures { result ≡ atan_size points.now a }
 {
     let y = a * a;

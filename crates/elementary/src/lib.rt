@@ -1,6 +1,5 @@
 // Elementary functions and the tails of the normal law, as plain float steps, each rounded once: the
-// same bits on every machine. Every function is total, but for those that are lent the table, which ask
-// for its 384 numbers, and for near::place, which asks for a y below the reach. Each promise names the list of
+// same bits on every machine. Every function is total, but for near::place, which asks for a y below the reach. Each promise names the list of
 // steps that the function is proved equal to; specs/ has the lists, with the method in numbered steps, the
 // ranges, the measured error and where the constants come from.
 #![tactic(auto)]
@@ -15,7 +14,7 @@ mod polynomials;
 mod sine;
 mod tails;
 
-ghost use Rattle.std.specs.Prelude.{◌≡◌, length};
+ghost use Rattle.std.specs.Prelude.{◌≡◌};
 ghost use Rattle.elementary.specs.Exp.{exp_of};
 ghost use Rattle.elementary.specs.Ln.{ln_of, ln1p_by, ln1p_of};
 ghost use Rattle.elementary.specs.Atan.{atan_by, atan_of};
@@ -27,7 +26,7 @@ use exponential::{exp_reduced, scaled};
 use floats::bits::bits_of;
 use logarithm::{ln_normal, ln_rest};
 use near::{log_near, place};
-use points::points;
+use points::POINTS;
 use roots::sqrt;
 use sine::sin_reduced;
 use tails::tail_beyond;
@@ -42,7 +41,7 @@ pub fn exp(x: f64) -> f64
     let t = x * exponential::PER_LN_2 + exponential::SHIFT;
     let y = scaled(exp_reduced(x, t - exponential::SHIFT), bits_of(t) % 4096);
     let above = if t > exponential::GREATEST {
-        1.0 / 0.0
+        f64::INFINITY
     } else {
         y
     };
@@ -55,8 +54,8 @@ pub fn exp(x: f64) -> f64
 pub fn ln(x: f64) -> f64
     ensures { result ≡ ln_of x }
 {
-    if x >= logarithm::LEAST_NORMAL {
-        if x <= logarithm::LARGEST {
+    if x >= f64::MIN_POSITIVE {
+        if x <= f64::MAX {
             return ln_normal(x, 1023.0, 0.0);
         }
         return x;
@@ -65,9 +64,9 @@ pub fn ln(x: f64) -> f64
         return ln_normal(x * 18014398509481984.0, 1077.0, 0.0);
     }
     if x == 0.0 {
-        return -1.0 / 0.0;
+        return f64::NEG_INFINITY;
     }
-    0.0 / 0.0
+    f64::NAN
 }
 
 // ln(1 + x). From 0 to below 4000000 by the table that it shares with atan; below 0 by the series of ln
@@ -77,12 +76,11 @@ pub fn ln(x: f64) -> f64
 pub fn ln_1p(x: f64) -> f64
     ensures { result ≡ ln1p_of x }
 {
-    ln_1p_by(&points(), x)
+    ln_1p_by(&POINTS, x)
 }
 
 // The same with the table lent.
-pub fn ln_1p_by(points: &[f64], x: f64) -> f64
-    requires { length points.now ≡ 384 }
+pub fn ln_1p_by(points: &[f64; 384], x: f64) -> f64
     ensures { result ≡ ln1p_by points.now x }
 {
     if x >= 0.0 {
@@ -90,7 +88,7 @@ pub fn ln_1p_by(points: &[f64], x: f64) -> f64
             let i = place(x);
             return log_near(x, points[i], points[256 + i]);
         }
-        if x <= logarithm::LARGEST {
+        if x <= f64::MAX {
             let w = 1.0 + x;
             return ln_normal(w, 1023.0, (1.0 - (w - x)) / w);
         }
@@ -104,9 +102,9 @@ pub fn ln_1p_by(points: &[f64], x: f64) -> f64
         return ln_normal(w, 1023.0, (x - (w - 1.0)) / w);
     }
     if x == -1.0 {
-        return -1.0 / 0.0;
+        return f64::NEG_INFINITY;
     }
-    0.0 / 0.0
+    f64::NAN
 }
 
 // The angle from -pi/2 to pi/2 whose tangent is x: turned back by the angle of the table's nearest point,
@@ -115,12 +113,11 @@ pub fn ln_1p_by(points: &[f64], x: f64) -> f64
 pub fn atan(x: f64) -> f64
     ensures { result ≡ atan_of x }
 {
-    atan_by(&points(), x)
+    atan_by(&POINTS, x)
 }
 
 // The same with the table lent.
-pub fn atan_by(points: &[f64], x: f64) -> f64
-    requires { length points.now ≡ 384 }
+pub fn atan_by(points: &[f64; 384], x: f64) -> f64
     ensures { result ≡ atan_by points.now x }
 {
     if floats::signs::is_minus(x) {
@@ -136,8 +133,8 @@ pub fn sin(x: f64) -> f64
     ensures { result ≡ sin_of x }
 {
     let y = sin_reduced(x);
-    let below = if x < -sine::FURTHEST { 0.0 / 0.0 } else { y };
-    if x > sine::FURTHEST { 0.0 / 0.0 } else { below }
+    let below = if x < -sine::FURTHEST { f64::NAN } else { y };
+    if x > sine::FURTHEST { f64::NAN } else { below }
 }
 
 // The normal law with this mean and this variance.

@@ -22,11 +22,6 @@ const LN_ODD: [f64; 4] = [
     0.666666666666667, // 3fe5555555555558  z, near 2/3
 ];
 
-// The smallest normal number and the largest finite one.
-pub const LEAST_NORMAL: f64 = 2.2250738585072014e-308; // 0010000000000000
-
-pub const LARGEST: f64 = 1.7976931348623157e308; // 7fefffffffffffff
-
 // sqrt(1/2) - 1
 pub const F_LEAST: f64 = -0.2928932188134524; // bfd2bec333018866
 

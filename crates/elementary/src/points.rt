@@ -3,7 +3,7 @@ ghost use Rattle.std.specs.Prelude.{◌≡◌};
 ghost use Rattle.elementary.specs.Points.{points};
 
 // 128 points from 0 up; from place 128 on the angles whose tangents they are; from place 256 on ln(1 + q), q being the point's square, rounded.
-const POINTS: [f64; 384] = [
+pub static POINTS: [f64; 384] = [
     0.0, // 0000000000000000
     0.0, // 0000000000000000
     0.0, // 0000000000000000
@@ -390,7 +390,7 @@ const POINTS: [f64; 384] = [
     15.182482060410853, // 402e5d6e49e32483
 ];
 
-// The table, as a copy: the compiler makes one at each use of a constant array, so a loop is lent it.
+// The table, as a copy. `POINTS` can be lent with none.
 pub fn points() -> [f64; 384]
     ensures { result ≡ points }
 {

@@ -42,6 +42,7 @@ fn mills(z: f64) -> f64
 }
 
 // t held to 0 .. 1/2; 0 where it is no number.
+// Kept by hand: std's clamp leaves a NaN, and its max says not which zero it gives.
 fn clamped(t: f64) -> f64
     ensures { result ≡ clamped t }
 {
@@ -65,7 +66,7 @@ fn half_tail(z: f64) -> f64
 pub fn tail_beyond(z: f64) -> f64
     ensures { result ≡ tail_beyond z }
 {
-    if z != z {
+    if z.is_nan() {
         return z;
     }
     if z < 0.0 {

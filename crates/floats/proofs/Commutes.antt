@@ -1,12 +1,12 @@
 -- A rounded sum and a rounded product do not depend on the order of their two operands. So v q' + q v' is symmetric to the bit. Assumes nothing.
-use Prim.Native.Nat.{ℕ, ◌+◌, ◌-◌, ◌*◌, ◌≤◌, ◌<◌}
+use Prim.Native.Nat.{ℕ, ◌-◌, ◌*◌}
 use native.Mathlib.Nat.{add_comm, mul_comm}
 use native.Mathlib.Omega.{arith}
-use mathlib.Core.Path.{◌≡◌, refl, sym, ap, ◌∙◌}
+use mathlib.Core.Path.{◌≡◌, refl, sym}
 use mathlib.Core.Logic.{inl, inr}
 use mathlib.Core.Bool.{Bool, true, false}
 use borrow.Author.Tests.{lt-ltb, le-ltb}
-use lib.Ieee.{Float, nan, inf, fin, binary64, up, down, unlike, round, sum, add, mul}
+use lib.Ieee.{Float, nan, inf, fin, binary64, up, down, unlike, sum, add, mul}
 use Rattle.floats.specs.Words.{◌⊕◌, ◌⊗◌}
 use Rattle.floats.proofs.MatrixLaws.{lt-or-le}
 

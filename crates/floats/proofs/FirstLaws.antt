@@ -1,12 +1,17 @@
 -- What `first_where` found: where it says Some i the test holds at i and at no index before, and where it says None it holds nowhere. One idea: once found, a longer search finds the same. Assumes nothing.
-use mathlib.Core.Path.{◌≡◌, refl, sym, ap, ◌∙◌, subst}
+use mathlib.Core.Path.{◌≡◌, refl, sym, ◌∙◌}
 use mathlib.Core.Logic.{◌⊎◌, inl, inr, ⊎_elim}
-use mathlib.Core.Bool.{Bool, true, false, cond, true≢false}
+use mathlib.Core.Bool.{Bool, true, false, cond}
 use Prim.Native.Nat.{ℕ, zero, suc, ◌+◌, ◌-◌, ◌≤◌, ◌<◌}
 use native.Mathlib.Nat.{sub-add_cancel, zero-add, suc-add, eq-or-lt_of_le, not-suc-le-zero}
 use native.Mathlib.Numerals.{add-one}
 use native.Mathlib.Omega.{arith}
-use Rattle.std.specs.Prelude.{Option, Some, None}
+use lib.Dec.{ltb}
+use borrow.Author.Tests.{lt-ltb, le-ltb}
+use Rattle.std.specs.Prelude.{Option, Some, None, List, length, position, Float}
+use Rattle.std.proofs.lemmas.List.Sums.{position_or_len_is}
+use Rattle.std.specs.Float.{nan}
+use Rattle.floats.specs.Words.{◌‼◌}
 use Rattle.floats.specs.Search.{first_where, or_else}
 
 never : {i : ℕ} → None ≡ Some i → ⊥
@@ -64,3 +69,17 @@ module _ (test : ℕ → Bool) where
 
   pub none_before : (n i j : ℕ) → first_where n test ≡ Some i → j < i → test j ≡ false
   none_before n i j h l = none-at i j (found-holds n i h).2 l
+
+-- std's `position` finds the same
+pub position-first : (p : Float → Bool) (xs : List Float) → position p xs ≡ first_where (length xs) (λ t. p (xs ‼ t))
+position-first p xs = go (first_where (length xs) test) refl
+  where
+    test : ℕ → Bool
+    test t = p (xs ‼ t)
+
+    at : (i : ℕ) → i ≤ length xs → ((k : ℕ) → k < i → test k ≡ false) → (i < length xs → test i ≡ true) → position p xs ≡ cond (ltb i (length xs)) (Some i) None
+    at i l before here = let e = position_or_len_is p xs i nan l before here in rw e refl
+
+    go : (r : Option ℕ) → first_where (length xs) test ≡ r → position p xs ≡ r
+    go (Some i) h = let f = found-holds test (length xs) i h in at i (omega arith) (λ k l. none-at test i k f.2 l) (λ l. f.1) ∙ rw (lt-ltb i (length xs) f.0)
+    go None h = at (length xs) (omega arith) (λ k l. none-at test (length xs) k h l) (λ l. absurd (omega arith)) ∙ rw (le-ltb (length xs) (length xs) (omega arith))

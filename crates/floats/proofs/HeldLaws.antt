@@ -8,7 +8,11 @@ use native.Mathlib.Numerals.{add-one}
 use native.Mathlib.Omega.{arith}
 use lib.Dec.{T}
 use lib.Ieee.Fits.{and_i, and_l, and_r}
-use Rattle.floats.specs.Held.{all?}
+use Rattle.std.specs.Prelude.{Option, Some, None, List, length, Float}
+use Rattle.std.specs.Float.{binary64}
+use Rattle.std.specs.Float.Ieee.{fits}
+use Rattle.floats.specs.Words.{◌‼◌}
+use Rattle.floats.specs.Held.{all?, HeldBy}
 
 pub all-at : (n : ℕ) (test : ℕ → Bool) (t : ℕ) → T (all? n test) → t < n → T (test t)
 unfolding all?
@@ -25,3 +29,8 @@ all_of (suc n) test h = and_i (all? n test) (test n) (all_of n test (λ t l. h t
 pub all-next : (n : ℕ) (test : ℕ → Bool) → T (all? n test) → T (test n) → T (all? (n + 1) test)
 unfolding all?
 all-next n test h k = rw (add-one n) (and_i (all? n test) (test n) h k)
+
+-- a run whose every number is held, whatever the search in it told
+pub held_by : (found : Option ℕ) (xs : List Float) → ((t : ℕ) → T (fits binary64 (xs ‼ t))) → HeldBy found xs
+held_by (Some i) xs h = tt
+held_by None xs h = all_of (length xs) (λ t. fits binary64 (xs ‼ t)) (λ t l. h t)

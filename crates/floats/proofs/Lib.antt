@@ -1,3 +1,4 @@
+pub mod FoldLaws
 pub mod SignLaws
 pub mod FirstLaws
 pub mod HeldLaws

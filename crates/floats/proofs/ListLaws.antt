@@ -1,13 +1,12 @@
 -- Index laws: counting down, rows of a matrix, parts of lists, sums whose terms agree. Assumes nothing.
-use mathlib.Core.Path.{◌≡◌, refl, ap, ◌∙◌}
+use mathlib.Core.Path.{◌≡◌, refl}
 use Prim.Native.Nat.{ℕ, zero, suc, ◌+◌, ◌*◌, ◌-◌, ◌≤◌, ◌<◌}
 use native.Mathlib.Nat.{mul-le-mul_right, suc-mul}
 use native.Mathlib.Omega.{arith}
-use mathlib.Core.List.{List, ◌++◌}
+use mathlib.Core.List.{List}
 use lib.ListN.{length, take, drop, get_or, length-drop, length-append, length-take}
 use lib.Seq.{take_all, length-take-le, get_or-drop, get_or-take}
 use lib.Ieee.{Float}
-use Rattle.floats.specs.Words.{◌⊕◌}
 use Rattle.floats.specs.Sums.{sum_of}
 use Rattle.floats.specs.Tables.{part, with_part}
 

@@ -13,7 +13,7 @@ use lib.Arith.{digits_lt, digits_div, digits_mod}
 use lib.Ieee.{Float, nan}
 use borrow.Author.Tests.{ltb-true, ltb-false}
 use Rattle.floats.specs.Words.{◌‼◌}
-use Rattle.floats.specs.Tables.{square, symmetric, part, with_part}
+use Rattle.floats.specs.Tables.{square, symmetric, with_part}
 use Rattle.floats.proofs.TableLaws.{length-table, get_d-table}
 use Rattle.floats.specs.Matrix.{entry, Symmetric}
 

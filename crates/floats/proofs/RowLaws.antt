@@ -1,11 +1,11 @@
 -- Loops that store number j of a run at turn j, first to last: after j turns the run is `filled f j l`, its first j numbers new and the rest as they were.
 -- The one idea: number j is still the old one when turn j reads it. Assumes nothing.
-use Prim.Native.Nat.{ℕ, zero, suc, ◌+◌, ◌-◌, ◌≤◌, ◌<◌}
+use Prim.Native.Nat.{ℕ, suc, ◌+◌, ◌≤◌, ◌<◌}
 use native.Mathlib.Nat.{le_antisymm}
 use native.Mathlib.Numerals.{add-one}
 use native.Mathlib.Omega.{arith}
 use mathlib.Core.Path.{◌≡◌, refl, ap, sym, ◌∙◌}
-use mathlib.Core.List.{List, [], ◌∷◌, ◌++◌, append-nil, append_assoc}
+use mathlib.Core.List.{List, ◌∷◌, ◌++◌, append-nil, append_assoc}
 use lib.ListN.{length, get_or, set, drop, length-append, length-drop, length-set}
 use lib.Dec.{eqb}
 use lib.Seq.{drop-cons, drop-length, set_at, get_or_at, get_or-set_same, get_or-set_other, ext_get_or}

@@ -1,119 +1,31 @@
--- What comparisons with zero, differences and bit patterns tell of a value's sign and size. Each law goes by the three kinds of value. Assumes nothing.
+-- A value's sign and size, by std's words and by its bit pattern, and the total order. Each law goes by the three kinds of value. Assumes nothing.
 use mathlib.Core.Path.{◌≡◌, refl, sym, ap, ◌∙◌, subst}
 use mathlib.Core.Bool.{Bool, true, false, not, ◌&&◌, ◌||◌, beq, cond, true≢false}
-use Prim.Native.Nat.{ℕ, zero, suc, ◌+◌, ◌-◌, ◌*◌, ◌%◌, ◌/◌, ◌^◌, ◌≤◌, ◌<◌}
-use native.Mathlib.Nat.{zero-mul, sub_self, pow-succ', mul-pos, lt_irrefl}
+use Prim.Native.Nat.{ℕ, zero, suc, ◌+◌, ◌*◌, ◌%◌, ◌/◌, ◌^◌, ◌≤◌, ◌<◌}
+use native.Mathlib.Nat.{lt_irrefl}
 use native.Mathlib.Omega.{arith}
-use lib.IntN.{ℤ, pos, negsuc}
-use lib.Dec.{T, ltb, leb, eqb, ltb→lt, nltb→le, eqb→eq, eqb_refl, lit<}
+use lib.Dec.{T, ltb, leb, eqb, ltb→lt, eqb→eq, eqb_refl}
 use lib.Arith.{le→nltb}
-use lib.Pow.{pow_pos}
-use lib.Ieee.{Float, nan, inf, fin, binary64, up, down, below, level, neg, sub, add, sum, round, lt, eq, ne, is_nan, fits, of_bits, to_bits, of_fields, odd, top, hid, ones}
-use lib.Ieee.Fits.{up_pos, down_pos}
+use lib.Ieee.{Float, nan, inf, fin, binary64, up, down, below, level, lt, eq, ne, is_nan, fits, of_bits, to_bits, of_fields, odd, top, hid, ones}
 use lib.Ieee.Bits.{of_bits-to_bits, is_true, is_false}
 use lib.Ieee.Compare.{differs_from_itself}
-use lib.Ieee.Exact.{HasValue, round_exact}
 use lib.Ieee.Scale.{finite}
-use Rattle.floats.specs.Words.{plus_zero, ◌⊖◌}
+use Rattle.std.specs.Float.{float_with_sign, float_is_finite}
 use Rattle.floats.specs.Signs.{minus, abs_of, before}
 
--- ---- a comparison with zero
+-- ---- std's words for a size and for a finite value
 
-none-less : (a b : ℕ) → b ≡ 0 → ltb a b ≡ true → ⊥
-none-less a b z h = let l : a < b = ltb→lt a b (subst T (sym h) tt) in omega arith
+pub plain-sign : (x : Float) → float_with_sign false x ≡ abs_of x
+unfolding float_with_sign abs_of
+plain-sign nan = refl
+plain-sign (inf s) = refl
+plain-sign (fin s m e) = refl
 
-nothing : (e : ℤ) → 0 * up (pos 0) * down e ≡ 0
-nothing e = zero-mul (down e)
-
-pub neg-below : (x : Float) → lt x plus_zero ≡ true → neg x ≡ abs_of x
-unfolding lt neg abs_of of_bits
-neg-below nan h = absurd (true≢false (sym h))
-neg-below (inf true) h = refl
-neg-below (inf false) h = absurd (true≢false (sym h))
-neg-below (fin true m e) h = refl
-neg-below (fin false m e) h = absurd (none-less (m * up e * down (pos 0)) (0 * up (pos 0) * down e) (nothing e) h)
-
--- a zero that fits is written with the exponent 0
-zero_exponent : (e : ℤ) → T (eqb (up e * down e) 1) → e ≡ pos 0
-zero_exponent (pos zero) h = refl
-zero_exponent (pos (suc k)) h = absurd (even (2 ^ k) (rw pow-succ' at (eqb→eq (2 ^ suc k * 1) 1 h)))
-  where
-    even : (a : ℕ) → 2 * a * 1 ≡ 1 → ⊥
-    even a q = omega arith
-zero_exponent (negsuc k) h = absurd (even (2 ^ k) (rw pow-succ' at (eqb→eq (1 * 2 ^ suc k) 1 h)))
-  where
-    even : (a : ℕ) → 1 * (2 * a) ≡ 1 → ⊥
-    even a q = omega arith
-
-above-none : (m : ℕ) → 0 < suc m
-above-none m = omega arith
-
--- m * 2 ^ e is 0 only where m is
-nothing-by : (m u d : ℕ) → 0 < u → 0 < d → m * u * d ≡ 0 → m ≡ 0
-nothing-by zero u d U D h = refl
-nothing-by (suc m) u d U D h = absurd (lt_irrefl 0 (subst (λ (z : ℕ). 0 < z) h (mul-pos (mul-pos (above-none m) U) D)))
-
-both_true : (a b : Bool) → a && b ≡ true → T a
-both_true true b h = tt
-both_true false b h = absurd (true≢false (sym h))
-
--- of two numbers that are 0 the sizes agree
-level-zero : (s t : Bool) (a b : ℕ) → a ≡ 0 → b ≡ 0 → eqb a b && (beq s t || eqb a 0) ≡ true
-level-zero s t a b p q = rw (p, q) (go (beq s t))
-  where
-    go : (c : Bool) → c || true ≡ true
-    go true = refl
-    go false = refl
-
-pub zero-at : (x : Float) → T (fits binary64 x) → eq x plus_zero ≡ true → plus_zero ≡ abs_of x
-unfolding eq abs_of of_bits fits
-zero-at nan f h = absurd (true≢false (sym h))
-zero-at (inf s) f h = absurd (true≢false (sym h))
-zero-at (fin s zero e) f h = ap (fin false zero) (sym (zero_exponent e f))
-zero-at (fin s (suc m) e) f h =
-    absurd (some m (nothing-by (suc m) (up e) (down (pos 0)) (up_pos e) (down_pos (pos 0)) (eqb→eq (suc m * up e * down (pos 0)) (0 * up (pos 0) * down e) (both_true (eqb (suc m * up e * down (pos 0)) (0 * up (pos 0) * down e)) (beq s false || eqb (suc m * up e * down (pos 0)) 0) h) ∙ nothing e)))
-  where
-    some : (m : ℕ) → suc m ≡ 0 → ⊥
-    some m q = omega arith
-
-none_above : (a b : ℕ) → ltb 0 (a + b) ≡ false → a ≡ 0
-none_above a b h = let l : a + b ≤ 0 = nltb→le 0 (a + b) (subst (λ (x : Bool). T (not x)) (sym h) tt) in omega arith
-
-pub abs-above : (x : Float) → lt x plus_zero ≡ false → eq x plus_zero ≡ false → x ≡ abs_of x
-unfolding lt eq abs_of of_bits
-abs-above nan h g = refl
-abs-above (inf true) h g = absurd (true≢false h)
-abs-above (inf false) h g = refl
-abs-above (fin false m e) h g = refl
-abs-above (fin true m e) h g =
-    absurd (true≢false (sym (level-zero true false (m * up e * down (pos 0)) (0 * up (pos 0) * down e) (none_above (m * up e * down (pos 0)) (0 * up (pos 0) * down e) h) (nothing e)) ∙ g))
-
--- ---- a difference with itself
-
-equals-zero : (x : Float) (s : Bool) (c : ℕ) → 0 < c → HasValue x s 0 c → eq x plus_zero ≡ true
-unfolding eq of_bits
-equals-zero nan s c C v = absurd v
-equals-zero (inf t) s c C v = absurd v
-equals-zero (fin t m e) s c C v =
-    level-zero t false (m * up e * down (pos 0)) (0 * up (pos 0) * down e) (rw (nothing-by m (up e) c (up_pos e) C (v.1 ∙ zero-mul (down e))) (zeroes (up e))) (nothing e)
-  where
-    zeroes : (u : ℕ) → 0 * u * 1 ≡ 0
-    zeroes u = omega (arith, zero-mul u)
-
-round-nothing : (s : Bool) (c : ℕ) → 0 < c → eq (round binary64 s 0 c) plus_zero ≡ true
-round-nothing s c C = equals-zero (round binary64 s 0 c) s c C (round_exact binary64 s 0 c 0 0 C (pow_pos 53) (lit< tt) (sym (zero-mul c)))
-
-no_difference : (s t : Bool) (a c : ℕ) → 0 < c → eq (cond (ltb a a) (round binary64 s (a - a) c) (round binary64 t (a - a) c)) plus_zero ≡ true
-no_difference s t a c C = rw (is_false (ltb a a) (le→nltb a a (omega arith)), sub_self a) (round-nothing t c C)
-
--- x - x is 0 exactly where x is finite
-pub self-difference : (x : Float) → eq (x ⊖ x) plus_zero ≡ finite x
-unfolding eq sub add neg sum of_bits
-self-difference nan = refl
-self-difference (inf true) = refl
-self-difference (inf false) = refl
-self-difference (fin true m e) = no_difference false _ (m * up e * down e) (down e * down e) (mul-pos (down_pos e) (down_pos e))
-self-difference (fin false m e) = no_difference true _ (m * up e * down e) (down e * down e) (mul-pos (down_pos e) (down_pos e))
+pub finite-same : (x : Float) → float_is_finite x ≡ finite x
+unfolding float_is_finite
+finite-same nan = refl
+finite-same (inf s) = refl
+finite-same (fin s m e) = refl
 
 -- ---- a bit pattern
 
@@ -202,6 +114,10 @@ second : (x y : Bool) → x && (false || y) ≡ true → T y
 second true true h = tt
 second true false h = absurd (true≢false (sym h))
 second false y h = absurd (true≢false (sym h))
+
+both_true : (a b : Bool) → a && b ≡ true → T a
+both_true true b h = tt
+both_true false b h = absurd (true≢false (sym h))
 
 level-not-below : (s t : Bool) (a b : ℕ) → level s a t b ≡ true → below t b s a ≡ false
 level-not-below s t a b h = go s t (eqb→eq a b (both_true (eqb a b) (beq s t || eqb a 0) h)) h

@@ -1,14 +1,13 @@
 -- The total order on finite numbers is the order of signs and then of sizes, so "does not come before" is transitive. Sizes are fractions: m * 2 ^ e is m * up e / down e. Assumes nothing.
 use mathlib.Core.Path.{◌≡◌, refl, sym, ◌∙◌, subst}
-use mathlib.Core.Bool.{Bool, true, false, not, ◌&&◌, ◌||◌, beq, true≢false}
+use mathlib.Core.Bool.{Bool, true, false, not, ◌&&◌, ◌||◌, true≢false}
 use Prim.Native.Nat.{ℕ, ◌+◌, ◌*◌, ◌≤◌, ◌<◌}
-use native.Mathlib.Nat.{mul_comm}
 use native.Mathlib.Omega.{arith}
-use lib.Dec.{T, ltb, eqb, ltb→lt, nltb→le, lt→ltb, eqb_refl}
+use lib.Dec.{T, ltb, eqb, nltb→le}
 use lib.Arith.{le→nltb}
 use lib.IntN.{ℤ}
 use lib.Ieee.{Float, nan, inf, fin, up, down, below, level, lt, eq}
-use lib.Ieee.Bits.{is_true, is_false}
+use lib.Ieee.Bits.{is_false}
 use lib.Ieee.Fits.{down_pos}
 use lib.Ieee.Positive.{through}
 use lib.Ieee.Scale.{finite}

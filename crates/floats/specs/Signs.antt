@@ -1,6 +1,6 @@
 -- Signs and sizes of binary64 values, and the total order of those that are no NaN.
 -- A value is lib.Ieee's: `nan`, `inf s` or `fin s m e`, negative where s is true. Definitions only. Assumes nothing.
-use Rattle.std.specs.Prelude.{Bool, true, false, not, ◌&&◌, ◌||◌, cond, Float}
+use Rattle.std.specs.Prelude.{Bool, false, not, ◌&&◌, ◌||◌, cond, Float}
 use Rattle.std.specs.Float.{nan, inf, fin}
 use Rattle.std.specs.Float.Ieee.{neg, lt, eq, is_nan}
 

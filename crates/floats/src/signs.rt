@@ -10,7 +10,7 @@ pub fn is_finite(x: f64) -> bool
     ensures value { result ≡ finite x }
     ensures held { T (fits binary64 x) }
 {
-    x - x == 0.0
+    f64::is_finite(x)
 }
 
 // Whether the sign is minus, at -0 too.
@@ -24,13 +24,7 @@ pub fn is_minus(x: f64) -> bool
 pub fn abs(x: f64) -> f64
     ensures { result ≡ abs_of x }
 {
-    if x < 0.0 {
-        return -x;
-    }
-    if x == 0.0 {
-        return 0.0;
-    }
-    x
+    f64::abs(x)
 }
 
 // |x| with the sign of y.

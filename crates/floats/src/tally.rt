@@ -2,7 +2,7 @@
 ghost use Rattle.std.specs.Prelude.{◌≡◌, ◌+◌, ◌<◌, ◌^◌};
 ghost use Rattle.floats.specs.Count.{no_work, one_sweep, one_bisection, evaluated};
 
-#[derive(Clone, Copy)]
+#[derive(Clone, Copy, Default)]
 pub struct Tally {
     pub sweeps: usize,
     pub bisections: usize,
@@ -13,11 +13,7 @@ impl Tally {
     pub fn new() -> Tally
         ensures { result ≡ no_work }
     {
-        Tally {
-            sweeps: 0,
-            bisections: 0,
-            evaluations: 0,
-        }
+        Tally::default()
     }
 
     // One QL sweep more.
@@ -25,7 +21,7 @@ impl Tally {
         requires { self.sweeps + 1 < 2 ^ 64 }
         ensures { result ≡ one_sweep self }
     {
-        self.sweeps = self.sweeps + 1;
+        self.sweeps += 1;
         self
     }
 
@@ -34,7 +30,7 @@ impl Tally {
         requires { self.bisections + 1 < 2 ^ 64 }
         ensures { result ≡ one_bisection self }
     {
-        self.bisections = self.bisections + 1;
+        self.bisections += 1;
         self
     }
 
@@ -43,7 +39,7 @@ impl Tally {
         requires { self.evaluations + k < 2 ^ 64 }
         ensures { result ≡ evaluated k self }
     {
-        self.evaluations = self.evaluations + k;
+        self.evaluations += k;
         self
     }
 }

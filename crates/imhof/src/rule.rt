@@ -1,8 +1,7 @@
 // The Gauss-Kronrod rule of 7 and 15 points.
-ghost use Rattle.std.specs.Prelude.{◌≡◌, [], ◌∷◌, ◌++◌, length};
-ghost use Rattle.elementary.specs.Points.{points};
+ghost use Rattle.std.specs.Prelude.{◌≡◌, ◌&&◌, [], ◌∷◌, ◌++◌};
 ghost use Rattle.imhof.specs.Integrand.{integrand_of};
-ghost use Rattle.imhof.specs.Parts.{left_half, right_half};
+ghost use Rattle.imhof.specs.Parts.{finite_part, left_half, right_half};
 ghost use Rattle.imhof.specs.Rule.{gk15_of, middle_of, points_of, rule_of};
 
 use super::Part;
@@ -14,11 +13,20 @@ pub struct Halves {
     pub right: Part,
 }
 
+impl Halves {
+    // Whether both are.
+    pub fn are_finite(self) -> bool
+        ensures { result ≡ finite_part self.left && finite_part self.right }
+    {
+        self.left.is_finite() && self.right.is_finite()
+    }
+}
+
 // How many points the rule has.
 pub const RULE_SIZE: usize = 15;
 
 // Nodes on [0, 1], from the outermost to 0.
-const GK_X: [f64; 8] = [
+static GK_X: [f64; 8] = [
     0.991_455_371_120_812_6,
     0.949_107_912_342_758_5,
     0.864_864_423_359_769_1,
@@ -29,7 +37,7 @@ const GK_X: [f64; 8] = [
     0.0,
 ];
 // Kronrod's weights of all nodes.
-const GK_WK: [f64; 8] = [
+static GK_WK: [f64; 8] = [
     0.022_935_322_010_529_22,
     0.063_092_092_629_978_55,
     0.104_790_010_322_250_2,
@@ -40,7 +48,7 @@ const GK_WK: [f64; 8] = [
     0.209_482_141_084_727_8,
 ];
 // Gauss's weights of nodes 1, 3, 5 and 7.
-const GK_WG: [f64; 4] = [
+static GK_WG: [f64; 4] = [
     0.129_484_966_168_869_7,
     0.279_705_391_489_276_7,
     0.381_830_050_505_118_9,
@@ -55,8 +63,8 @@ fn laid(a: f64, b: f64) -> [f64; 16]
     let c = 0.5 * (a + b);
     let h = 0.5 * (b - a);
     let mut s = [c; 16];
-    for i in 0..7usize {
-        let x = h * GK_X[i];
+    for (i, x) in GK_X[..7].iter().enumerate() {
+        let x = h * *x;
         s[2 * i] = c - x;
         s[2 * i + 1] = c + x;
     }
@@ -64,16 +72,15 @@ fn laid(a: f64, b: f64) -> [f64; 16]
 }
 
 // The part from a to b, of the integrand's values where `laid` has it asked: Kronrod's estimate, and its distance from Gauss's.
-fn gathered(f: &[f64], a: f64, b: f64) -> Part
-    requires { length f.now ≡ 16 }
+fn gathered(f: &[f64; 16], a: f64, b: f64) -> Part
     ensures { result ≡ rule_of a b f.now }
 {
     let h = 0.5 * (b - a);
     let mut k = GK_WK[7] * f[14];
     let mut g = GK_WG[3] * f[14];
-    for i in 0..7usize {
+    for (i, w) in GK_WK[..7].iter().enumerate() {
         let pair = f[2 * i] + f[2 * i + 1];
-        k = k + GK_WK[i] * pair;
+        k = k + *w * pair;
         if i % 2 == 1 {
             g = g + GK_WG[i / 2] * pair;
         }
@@ -86,32 +93,23 @@ fn gathered(f: &[f64], a: f64, b: f64) -> Part
     }
 }
 
-// The part from a to b: 15 evaluations of the integrand, and one at the sixteenth place, which nothing reads and no count has. The table is lent.
-fn gk15_by(ps: &[f64], weights: &[f64], a: f64, b: f64) -> Part
-    requires { ps.now ≡ points }
-    ensures { result ≡ gk15_of (integrand_of weights.now) a b }
-{
-    let mut f = laid(a, b);
-    integrands(ps, weights, &mut f);
-    gathered(&f, a, b)
-}
-
-// The part from a to b: Kronrod's estimate, and its distance from Gauss's.
+// The part from a to b: Kronrod's estimate, and its distance from Gauss's. 15 evaluations of the integrand, and one at the sixteenth place, which nothing reads and no count has.
 pub fn gk15(weights: &[f64], a: f64, b: f64) -> Part
     ensures { result ≡ gk15_of (integrand_of weights.now) a b }
 {
-    let points = elementary::points::points();
-    gk15_by(&points, weights, a, b)
+    let mut f = laid(a, b);
+    integrands(weights, &mut f);
+    gathered(&f, a, b)
 }
 
 // The two halves of a part: 2 * RULE_SIZE evaluations are counted.
 pub fn bisect(weights: &[f64], p: Part) -> Halves
-    ensures { (result.left ≡ left_half (integrand_of weights.now) p) × (result.right ≡ right_half (integrand_of weights.now) p) }
+    ensures left { result.left ≡ left_half (integrand_of weights.now) p }
+    ensures right { result.right ≡ right_half (integrand_of weights.now) p }
 {
-    let points = elementary::points::points();
     let mid = 0.5 * (p.lo + p.hi);
     Halves {
-        left: gk15_by(&points, weights, p.lo, mid),
-        right: gk15_by(&points, weights, mid, p.hi),
+        left: gk15(weights, p.lo, mid),
+        right: gk15(weights, mid, p.hi),
     }
 }

@@ -8,7 +8,8 @@ use lib.Ieee.Positive.{positive, positive-finite, positive_of_value, value_pos}
 use Rattle.floats.specs.Signs.{minus}
 use Rattle.roots.specs.Root.{root_of, sqrt_of}
 use Rattle.roots.specs.Patterns.{units_of}
-use Rattle.roots.specs.Hypot.{infinite, in_units, hypot_of}
+use Rattle.roots.specs.Hypot.{in_units, hypot_of}
+use Rattle.std.specs.Float.{float_is_infinite}
 use Rattle.roots.specs.Nearest.{Holds}
 use Rattle.roots.proofs.Ladder.{below_top, own_value, holds}
 use Rattle.roots.proofs.Rounding.{root_of-is}
@@ -96,14 +97,14 @@ hypot-symmetric (fin s m e) nan = refl
 hypot-symmetric (fin s m e) (inf t) = refl
 hypot-symmetric (fin s m e) (fin t n d) = ap root_of (add_comm (in_units m e * in_units m e) (in_units n d * in_units n d))
 
-pub hypot-infinite : (x y : Float) → infinite x ≡ true → hypot_of x y ≡ inf false
-unfolding hypot_of
+pub hypot-infinite : (x y : Float) → float_is_infinite x ≡ true → hypot_of x y ≡ inf false
+unfolding hypot_of float_is_infinite
 hypot-infinite nan y h = absurd (false≢true h)
 hypot-infinite (inf s) y h = refl
 hypot-infinite (fin s m e) y h = absurd (false≢true h)
 
-pub hypot-nan : (y : Float) → infinite y ≡ false → hypot_of nan y ≡ nan
-unfolding hypot_of
+pub hypot-nan : (y : Float) → float_is_infinite y ≡ false → hypot_of nan y ≡ nan
+unfolding hypot_of float_is_infinite
 hypot-nan nan h = refl
 hypot-nan (inf t) h = absurd (true≢false h)
 hypot-nan (fin t n d) h = refl

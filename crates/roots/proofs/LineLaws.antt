@@ -155,15 +155,3 @@ module _ (n : ℕ) (from : 2 ^ 60 ≤ n) (below : n < 2 ^ 62) where
 
   pub line-inside : Inside n (line_at n)
   line-inside = within l (l % 4096) (p * 2 ^ 17) n begins ends (omega arith) (holds 0) (holds 1) (holds 2) (holds 3)
-
--- ---- a number below 64 that is none of the first 63
-abbrev others : ℕ → ℕ → Type 0
-others p zero = Unit {0}
-others p (suc k) = others p k × (p ≡ k → ⊥)
-
-past : (p k : ℕ) → others p k → k ≤ p
-past p zero r = zero-le
-past p (suc k) r = omega (arith, past p k r.0, r.1)
-
-pub last-part : (p : ℕ) → p < 64 → others p 63 → p ≡ 63
-last-part p h r = omega (arith, past p 63 r)

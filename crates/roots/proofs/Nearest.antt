@@ -6,6 +6,7 @@ use native.Mathlib.Nat.{mul-lt-mul_of_pos_left}
 use mathlib.Core.Bool.{false≢true}
 use lib.Ieee.{Float, nan, inf, fin, binary64, nearest, is_nan, of_bits, to_bits}
 use lib.Ieee.Fits.{nearest-le}
+use Rattle.std.specs.Float.{float_is_infinite}
 use Rattle.roots.specs.Root.{root_of}
 use Rattle.roots.specs.Hypot.{hypot_of}
 use Rattle.roots.specs.Nearest.{NearestRoot, RootIsNearest, NearestIsOne, FiniteIsSized, beyond, HypotIsNearest, HypotOverflows, HypotAtEnds}
@@ -153,7 +154,7 @@ pub hypot-overflows : HypotOverflows
 hypot-overflows x y A B s t h = hypot-units x y A B s t ∙ root-overflows (A * A + B * B) h
 
 pub hypot-at-ends : HypotAtEnds
-unfolding hypot_of is_nan
+unfolding hypot_of is_nan float_is_infinite
 hypot-at-ends nan nan = (λ h. absurd (false≢true h), λ h k. refl)
 hypot-at-ends nan (inf t) = (λ h. refl, λ h. absurd (true≢false h))
 hypot-at-ends nan (fin t n d) = (λ h. absurd (false≢true h), λ h k. refl)

@@ -1,16 +1,10 @@
 -- hypot: √(x² + y²), correctly rounded, by the same `root_of` as the square root. Callers cite laws (proofs/Laws.antt).
 -- In units of 2 ^ -1074 it is √(A² + B²) for numbers of A and B units: the root of a whole number, rounded once. specs/Nearest.antt says what that is with no algorithm.
 -- Definitions only. Assumes nothing.
-use Rattle.std.specs.Prelude.{ℕ, ◌+◌, ◌*◌, ◌/◌, ◌^◌, Bool, true, false, ℤ, Float}
+use Rattle.std.specs.Prelude.{ℕ, ◌+◌, ◌*◌, ◌/◌, ◌^◌, false, ℤ, Float}
 use Rattle.std.specs.Float.{nan, inf, fin}
 use Rattle.std.specs.Float.Ieee.{up, down}
 use Rattle.roots.specs.Root.{root_of}
-
--- one of the two infinities
-abbrev pub infinite : Float → Bool
-infinite nan = false
-infinite (inf s) = true
-infinite (fin s m e) = false
 
 -- how many units m * 2 ^ e has
 abbrev pub in_units : ℕ → ℤ → ℕ

@@ -2,12 +2,12 @@
 -- Values are counted in units of the smallest value, 2 ^ -1074.
 -- Definitions only. Assumes nothing.
 use Rattle.std.specs.Prelude.{◌≡◌, ℕ, ◌+◌, ◌-◌, ◌*◌, ◌%◌, ◌^◌, ◌<◌, ◌≤◌, Bool, true, false, ◌||◌, T, ◌≢◌, is_nan, to_bits, Float}
-use Rattle.std.specs.Float.{nan, inf, binary64}
+use Rattle.std.specs.Float.{nan, inf, binary64, float_is_infinite}
 use Rattle.std.specs.Float.Ieee.{fits}
 use Rattle.std.specs.Float.Ieee.Exact.{HasValue}
 use Rattle.std.specs.Float.Ieee.Scale.{finite}
 use Rattle.roots.specs.Root.{sqrt_of}
-use Rattle.roots.specs.Hypot.{infinite, hypot_of}
+use Rattle.roots.specs.Hypot.{hypot_of}
 
 -- y is a value of the format, not negative, of Y units
 abbrev pub Holds : Float → ℕ → Type 0
@@ -57,4 +57,4 @@ HypotOverflows = (x y : Float) (A B : ℕ) → Sized x A → Sized y B → beyon
 
 -- At an infinity it is +infinity, beside a NaN too; else at a NaN it is a NaN. (proofs/Nearest.antt: hypot-at-ends)
 abbrev pub HypotAtEnds : Type 0
-HypotAtEnds = (x y : Float) → ((infinite x || infinite y) ≡ true → hypot_of x y ≡ inf false) × ((infinite x || infinite y) ≡ false → (is_nan x || is_nan y) ≡ true → hypot_of x y ≡ nan)
+HypotAtEnds = (x y : Float) → ((float_is_infinite x || float_is_infinite y) ≡ true → hypot_of x y ≡ inf false) × ((float_is_infinite x || float_is_infinite y) ≡ false → (is_nan x || is_nan y) ≡ true → hypot_of x y ≡ nan)

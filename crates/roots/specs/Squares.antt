@@ -1,6 +1,6 @@
 -- The sum of two squares m² + w² / 4 ^ d, exactly and by its leading digits: what the inner functions of hypot say of it. m and w are the digits of two numbers, and d is how far their exponents are apart.
 -- Definitions only. Assumes nothing.
-use Rattle.std.specs.Prelude.{◌≡◌, ℕ, suc, ◌+◌, ◌*◌, ◌/◌, ◌%◌, ◌^◌, ◌<◌, ◌≤◌, Bool, ◌==◌}
+use Rattle.std.specs.Prelude.{◌≡◌, ℕ, suc, ◌+◌, ◌*◌, ◌^◌, ◌<◌, ◌≤◌}
 use Prim.Native.Nat.{compare}
 use Rattle.std.specs.Float.Ieee.{nearest}
 
@@ -14,23 +14,6 @@ pub record Leading (m w d s : ℕ) : Type 0 where
   pub below : s < 2 ^ 63
   pub low : s * 2 ^ 44 * 4 ^ d ≤ squares m w d
   pub high : squares m w d < (s + 3) * 2 ^ 44 * 4 ^ d
-
--- n as two numbers, the lower of 54 binary digits
-pub record InParts (n hi lo : ℕ) : Type 0 where
-  pub same : hi * 2 ^ 54 + lo ≡ n
-  pub below : lo < 2 ^ 54
-
--- n / 2 ^ t as two such numbers, and whether nothing is lost
-pub record ShiftedParts (n t hi lo : ℕ) (exact : Bool) : Type 0 where
-  pub same : hi * 2 ^ 54 + lo ≡ n / 2 ^ t
-  pub below : lo < 2 ^ 54
-  pub is : exact ≡ (n % 2 ^ t == 0)
-
--- four times the sum as two such numbers, and whether nothing is lost
-pub record SumSquares (m w d hi lo : ℕ) (exact : Bool) : Type 0 where
-  pub same : hi * 2 ^ 54 + lo ≡ 4 * (m * m) + 4 * (w * w) / 4 ^ d
-  pub below : lo < 2 ^ 54
-  pub is : exact ≡ (4 * (w * w) % 4 ^ d == 0)
 
 -- c or c + 1, by how the sum compares with the square of their middle, (c + 1/2)², k places up; both are four times as large, and made whole. A tie goes to the even one.
 abbrev pub rounded_at : ℕ → ℕ → ℕ → ℕ → ℕ → ℕ

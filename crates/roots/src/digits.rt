@@ -13,10 +13,7 @@ fn root(m: u64) -> u64
     ensures { NearRoot (m * 2 ^ 52) result }
 {
     let r = near(m * 256);
-    if r.base < r.test {
-        return r.c + 1;
-    }
-    r.c
+    if r.base < r.test { r.c + 1 } else { r.c }
 }
 
 pub const TWICE: u64 = 0x20_0000_0000_0000; // 2^53
@@ -28,8 +25,7 @@ fn root_bits(w: u64) -> u64
     ensures { RootBits ((2 ^ 52 + w % 2 ^ 52) * 2 ^ (w / 2 ^ 52 + 52)) result }
 {
     let y = w % TWICE;
-    let top = if y < LEADING { LEADING } else { y };
-    (w - y) / 2 + root(y + top)
+    (w - y) / 2 + root(y + y.max(LEADING))
 }
 
 // That value.

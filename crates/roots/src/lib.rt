@@ -2,15 +2,15 @@
 #![tactic(auto)]
 
 mod digits;
-mod exact;
 mod lines;
 mod near;
 mod sums;
+mod two_squares;
 
 ghost use Rattle.std.specs.Prelude.{◌≡◌, ◌^◌, ◌<◌, ◌≤◌, true, ◌||◌, is_nan, to_bits};
 ghost use Rattle.std.specs.Float.{binary64};
 ghost use Rattle.roots.specs.Root.{sqrt_of};
-ghost use Rattle.roots.specs.Hypot.{infinite, hypot_of};
+ghost use Rattle.roots.specs.Hypot.{hypot_of};
 
 use digits::{LEADING, root_of};
 use sums::sum_root;
@@ -23,7 +23,7 @@ fn root_of_normal(x: f64) -> f64
     requires { (2 ^ 52 ≤ to_bits binary64 x) × (to_bits binary64 x < 0x7ff0_0000_0000_0000) }
     ensures { result ≡ sqrt_of x }
 {
-    root_of(f64::to_bits(x) + LIFT)
+    root_of(x.to_bits() + LIFT)
 }
 
 // IEEE 754's squareRoot: the value nearest to the root, a tie to the even one. The root of -0 is -0.
@@ -31,19 +31,18 @@ pub fn sqrt(x: f64) -> f64
     ensures { result ≡ sqrt_of x }
 {
     if x < 0.0 {
-        return 0.0 / 0.0;
+        return f64::NAN;
     }
     if 0.0 < x {
-        let b = f64::to_bits(x);
-        let field = b / LEADING;
-        if field == 2047 {
-            return x;
-        }
-        if field == 0 {
-            let z = u64::leading_zeros(b) - 11;
-            return root_of((b << z) + (1021 - z as u64) * LEADING);
-        }
-        return root_of_normal(x);
+        let b = x.to_bits();
+        return match b / LEADING {
+            2047 => x,
+            0 => {
+                let z = b.leading_zeros() - 11;
+                root_of((b << z) + (1021 - z as u64) * LEADING)
+            }
+            _ => root_of_normal(x),
+        };
     }
     x
 }
@@ -52,14 +51,12 @@ pub fn sqrt(x: f64) -> f64
 pub fn hypot(x: f64, y: f64) -> f64
     ensures { result ≡ hypot_of x y }
 {
-    if x != x || y != y {
+    if x.is_nan() || y.is_nan() {
         return beside_nan(x, y);
     }
-    let p = f64::to_bits(x) << 1;
-    let q = f64::to_bits(y) << 1;
-    let large = if p < q { q } else { p };
-    let small = if p < q { p } else { q };
-    f64::from_bits(sum_root(large, small))
+    let p = x.to_bits() << 1;
+    let q = y.to_bits() << 1;
+    f64::from_bits(sum_root(p.max(q), p.min(q)))
 }
 
 // The same where one is a NaN.
@@ -67,14 +64,9 @@ fn beside_nan(x: f64, y: f64) -> f64
     requires { (is_nan x || is_nan y) ≡ true }
     ensures { result ≡ hypot_of x y }
 {
-    if is_infinite(x) || is_infinite(y) {
-        return 1.0 / 0.0;
+    if x.is_infinite() || y.is_infinite() {
+        f64::INFINITY
+    } else {
+        f64::NAN
     }
-    0.0 / 0.0
-}
-
-fn is_infinite(x: f64) -> bool
-    ensures { result ≡ infinite x }
-{
-    x == 1.0 / 0.0 || x == -1.0 / 0.0
 }

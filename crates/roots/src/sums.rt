@@ -5,62 +5,18 @@
 // 3. Which, the leading digits tell where they lie by 3 units or more on one side of the middle's square (`sum_root`); but for one pair in 250 they do.
 // 4. Else, and where the root is no normal number, the whole sum is compared with that square (`careful`, `subnormal`).
 // Infinity's bits go the same way: they stand for 2^2098 units, from where on a root is infinite.
-ghost use Rattle.std.specs.Prelude.{◌≡◌, ◌+◌, ◌*◌, ◌/◌, ◌^◌, ◌<◌, ◌≤◌, min};
+ghost use Rattle.std.specs.Prelude.{◌≡◌, ◌+◌, ◌*◌, ◌/◌, ◌^◌, ◌<◌, ◌≤◌};
 ghost use Rattle.roots.specs.Root.{RootBits};
 ghost use Rattle.roots.specs.Patterns.{top, Fields, square_sum};
-ghost use Rattle.roots.specs.Squares.{Leading, RootBelow};
 
 use super::digits::{LEADING, TWICE};
-use super::exact::rounded;
-use super::near::near;
+use super::two_squares::TwoSquares;
 
-// The upper half of a product. The compiler makes one instruction of it.
-fn high_product(u: u64, v: u64) -> u64
-    ensures { result ≡ u * v / 2 ^ 64 }
-{
-    let lower_u = u % 0x1_0000_0000;
-    let upper_u = u / 0x1_0000_0000;
-    let lower_v = v % 0x1_0000_0000;
-    let upper_v = v / 0x1_0000_0000;
-    let t = upper_u * lower_v + lower_u * lower_v / 0x1_0000_0000;
-    let s = lower_u * upper_v + t % 0x1_0000_0000;
-    upper_u * upper_v + t / 0x1_0000_0000 + s / 0x1_0000_0000
-}
+// Infinity's bits: what lies past the largest finite value.
+const INFINITE: u64 = 0x7ff0_0000_0000_0000;
 
-// The leading digits of m² + w² / 4^d, in units of 2^44: what is left out is less than 3 of them.
-fn leading(m: u64, w: u64, d: u64) -> u64
-    requires { (2 ^ 52 ≤ m) × (m < 2 ^ 53) × (w < 2 ^ 53) × (d ≤ 26) }
-    ensures { Leading m w d result }
-{
-    let a = m * 2048;
-    let b = w * 2048 >> (d + 1);
-    high_product(a, a) / 4 + high_product(b, b)
-}
-
-// A root from below, c steps of 2^k, and what tells which way it goes.
-#[derive(Clone, Copy)]
-struct Rooted {
-    c: u64,
-    k: u64,
-    base: u64,
-    test: u64,
-}
-
-// The root of m² + w² / 4^d. k is 1 where the sum has a digit more than two of a root's 53.
-fn root_below(m: u64, w: u64, d: u64) -> Rooted
-    requires { (2 ^ 52 ≤ m) × (m < 2 ^ 53) × (w < 2 ^ 53) × (d ≤ 26) }
-    ensures { RootBelow m w d result.c result.k result.base result.test }
-{
-    let s = leading(m, w, d);
-    let k = s >> 62;
-    let r = near(s >> (2 * k));
-    Rooted {
-        c: r.c,
-        k,
-        base: r.base,
-        test: r.test,
-    }
-}
+// 3 * 2^44: from there on below the middle's square, the leading digits tell.
+const SURE: u64 = 0x3000_0000_0000;
 
 // The digits and the exponent of a number: m * 2^e units.
 #[derive(Clone, Copy)]
@@ -69,28 +25,20 @@ struct Number {
     e: u64,
 }
 
-fn fields(b: u64) -> Number
-    requires { b ≤ top }
-    ensures { Fields b result.m result.e }
-{
-    let e = b / LEADING;
-    if e == 0 {
-        return Number { m: b, e: 0 };
-    }
-    Number {
-        m: b % LEADING + LEADING,
-        e: e - 1,
-    }
-}
-
-// Past the largest finite value: infinity.
-fn clamp(r: u64) -> u64
-    ensures { result ≡ min r top }
-{
-    if r < 0x7ff0_0000_0000_0000 {
-        r
-    } else {
-        0x7ff0_0000_0000_0000
+impl Number {
+    fn of_bits(b: u64) -> Self
+        requires { b ≤ top }
+        ensures { Fields b result.m result.e }
+    {
+        let e = b / LEADING;
+        if e == 0 {
+            Number { m: b, e }
+        } else {
+            Number {
+                m: b % LEADING + LEADING,
+                e: e - 1,
+            }
+        }
     }
 }
 
@@ -103,9 +51,15 @@ fn subnormal(p: u64, q: u64) -> u64
     if p == 0 {
         return 0;
     }
-    let z = u64::leading_zeros(p) - 11;
-    let r = root_below(p << z, q << z, 0);
-    rounded(p, q, 0, r.c >> (z as u64 - r.k), 0)
+    let z = p.leading_zeros() - 11;
+    let up = TwoSquares {
+        m: p << z,
+        w: q << z,
+        d: 0,
+    };
+    let r = up.root_below();
+    let sum = TwoSquares { m: p, w: q, d: 0 };
+    sum.rounded(r.below.c >> (z as u64 - r.k), 0)
 }
 
 // The bits of √(P² + Q²), for p and q twice the bits of P and Q, which are at most 26 exponents apart: by a comparison of squares.
@@ -116,11 +70,16 @@ fn careful(p: u64, q: u64) -> u64
     if p < TWICE {
         return subnormal(p / 2, q / 2);
     }
-    let x = fields(p / 2);
-    let y = fields(q / 2);
-    let d = x.e - y.e;
-    let r = root_below(x.m, y.m, d);
-    clamp((x.e + r.k) * LEADING + rounded(x.m, y.m, d, r.c, r.k))
+    let x = Number::of_bits(p / 2);
+    let y = Number::of_bits(q / 2);
+    let sum = TwoSquares {
+        m: x.m,
+        w: y.m,
+        d: x.e - y.e,
+    };
+    let r = sum.root_below();
+    let bits = (x.e + r.k) * LEADING + sum.rounded(r.below.c, r.k);
+    bits.min(INFINITE)
 }
 
 // The same, at any distance, by the leading digits where these can tell. From a field of 28 on both numbers are normal.
@@ -133,14 +92,19 @@ pub fn sum_root(p: u64, q: u64) -> u64
     if 27 <= d {
         return p / 2;
     }
-    let r = root_below(p / 2 % LEADING + LEADING, q / 2 % LEADING + LEADING, d);
+    let sum = TwoSquares {
+        m: p / 2 % LEADING + LEADING,
+        w: q / 2 % LEADING + LEADING,
+        d,
+    };
+    let r = sum.root_below();
+    let below = r.below;
     let field = e + r.k;
     if field < 28 || 2046 < field {
         return careful(p, q);
     }
-    if std::num::wrapping_sub_u64(r.base, r.test) < 0x3000_0000_0000 {
+    if below.base.wrapping_sub(below.test) < SURE {
         return careful(p, q);
     }
-    let up = if r.base < r.test { 1u64 } else { 0u64 };
-    (field - 1) * LEADING + r.c + up
+    (field - 1) * LEADING + below.c + u64::from(below.base < below.test)
 }

@@ -4,7 +4,7 @@
 // term of each before the next, so that the compiler can take several numbers at once.
 #![tactic(auto)]
 
-ghost use Rattle.std.specs.Prelude.{◌≡◌, ◌+◌, ◌*◌, ◌≤◌, ◌<◌, length};
+ghost use Rattle.std.specs.Prelude.{◌≡◌, ℕ, ◌+◌, ◌*◌, ◌≤◌, ◌<◌, length, Float};
 ghost use Rattle.floats.specs.Words.{◌⊕◌, ◌⊗◌, ◌‼◌};
 ghost use Rattle.floats.specs.Tables.{table};
 ghost use Rattle.floats.specs.Limits.{max_rows};
@@ -12,13 +12,22 @@ ghost use Rattle.rows.specs.Terms.{Reach, sum_from};
 
 use floats::limits::MAX_ROWS;
 
+// Each number of `row` becomes what `f` makes of its place and of it.
+pub fn update<F: Fn(usize, f64) -> f64>(row: &mut [f64], f: F)
+    requires { (j : ℕ) (x : Float) → j < length row.old → F.pre f j x }
+    ensures kept { length row.new ≡ length row.old }
+    ensures each { (j : ℕ) → j < length row.old → F.post f j (row.old ‼ j) (row.new ‼ j) }
+{
+    for (j, x) in row.iter_mut().enumerate() {
+        *x = f(j, *x);
+    }
+}
+
 // Every number of `row` becomes x.
 pub fn fill(row: &mut [f64], x: f64)
     ensures { row.new ≡ table (λ j. x) (length row.old) }
 {
-    for j in 0..row.len() {
-        row[j] = x;
-    }
+    row.fill(x);
 }
 
 // The numbers of `row` become those of `xs`.
@@ -26,9 +35,7 @@ pub fn copy(row: &mut [f64], xs: &[f64])
     requires { length row.old ≤ length xs.now }
     ensures { row.new ≡ table (λ j. xs.now ‼ j) (length row.old) }
 {
-    for j in 0..row.len() {
-        row[j] = xs[j];
-    }
+    row.copy_from_slice(&xs[..row.len()]);
 }
 
 // Adds w times the numbers of `xs` to those of `row`.
@@ -36,9 +43,7 @@ pub fn add_one(row: &mut [f64], xs: &[f64], w: f64)
     requires { length row.old ≤ length xs.now }
     ensures { row.new ≡ table (λ j. row.old ‼ j ⊕ xs.now ‼ j ⊗ w) (length row.old) }
 {
-    for j in 0..row.len() {
-        row[j] = row[j] + xs[j] * w;
-    }
+    update(row, |j, x| x + xs[j] * w);
 }
 
 // x plus four terms: number `at` of `xs` times number s of `w`, and so on, `stride` on in the one and 1 in the other.

@@ -6,126 +6,144 @@
 ghost use Rattle.std.specs.Prelude.{◌+◌, ◌*◌, ◌^◌, ◌<◌, ◌≤◌, IfOk};
 
 use elementary::NormalLaw;
-use floats::bits::{bits_of, little_endian, of_bits};
+use floats::bits::{bits_of, of_bits};
+use std::fmt;
 use std::io;
 use std::io::Read;
 
 // No more of the input is read.
 const MOST_BYTES: u64 = 65_536;
 
-// Word k of the input, and 0 past its end.
-fn word(s: &[u8], k: usize) -> u64 {
-    if k < s.len() / 8 {
-        little_endian(s, k * 8, 8)
-    } else {
-        0
+// A word of the input.
+type Word = [u8; 8];
+
+// Word k, and 0 past the end.
+fn word(words: &[Word], k: usize) -> u64 {
+    words.get(k).map_or(0, |w| u64::from_le_bytes(*w))
+}
+
+#[derive(Clone, Copy)]
+enum Function {
+    Exp,
+    Ln,
+    Ln1p,
+    Atan,
+    Sin,
+    LowerTail,
+    UpperTail,
+}
+
+// All of them, in the order of the input.
+const FUNCTIONS: [Function; 7] = [
+    Function::Exp,
+    Function::Ln,
+    Function::Ln1p,
+    Function::Atan,
+    Function::Sin,
+    Function::LowerTail,
+    Function::UpperTail,
+];
+
+impl fmt::Display for Function {
+    fn fmt<W: fmt::Write>(&self, f: &mut fmt::Formatter<W>) -> fmt::Result {
+        f.write_str(match self {
+            Function::Exp => "exp",
+            Function::Ln => "ln",
+            Function::Ln1p => "ln_1p",
+            Function::Atan => "atan",
+            Function::Sin => "sin",
+            Function::LowerTail => "lower_tail",
+            Function::UpperTail => "upper_tail",
+        })
     }
 }
 
-fn name_of(function: usize) -> &'static str {
-    if function == 0 {
-        "exp"
-    } else if function == 1 {
-        "ln"
-    } else if function == 2 {
-        "ln_1p"
-    } else if function == 3 {
-        "atan"
-    } else if function == 4 {
-        "sin"
-    } else if function == 5 {
-        "lower_tail"
-    } else {
-        "upper_tail"
+impl Function {
+    // How many arguments it has: a tail the mean, the variance and the point.
+    fn arguments(self) -> usize
+        ensures { (1 ≤ result) × (result ≤ 3) }
+    {
+        match self {
+            Function::LowerTail | Function::UpperTail => 3,
+            _ => 1,
+        }
+    }
+
+    // The answer to the arguments from word k on.
+    fn answer(self, words: &[Word], k: usize) -> f64
+        requires { k < 2 ^ 32 }
+    {
+        let x = of_bits(word(words, k));
+        let law = NormalLaw {
+            mean: x,
+            variance: of_bits(word(words, k + 1)),
+        };
+        let point = of_bits(word(words, k + 2));
+        match self {
+            Function::Exp => elementary::exp(x),
+            Function::Ln => elementary::ln(x),
+            Function::Ln1p => elementary::ln_1p(x),
+            Function::Atan => elementary::atan(x),
+            Function::Sin => elementary::sin(x),
+            Function::LowerTail => elementary::lower_tail(law, point),
+            Function::UpperTail => elementary::upper_tail(law, point),
+        }
     }
 }
 
-// How many arguments a function has: a tail the mean, the variance and the point.
-fn arguments(function: usize) -> usize
-    ensures { (1 ≤ result) × (result ≤ 3) }
-{
-    if function < 5 { 1 } else { 3 }
-}
-
-// The answer to the arguments from word k on.
-fn answer(s: &[u8], function: usize, k: usize) -> f64
-    requires { k < 2 ^ 32 }
-{
-    let x = of_bits(word(s, k));
-    if function == 0 {
-        return elementary::exp(x);
-    }
-    if function == 1 {
-        return elementary::ln(x);
-    }
-    if function == 2 {
-        return elementary::ln_1p(x);
-    }
-    if function == 3 {
-        return elementary::atan(x);
-    }
-    if function == 4 {
-        return elementary::sin(x);
-    }
-    let law = NormalLaw {
-        mean: x,
-        variance: of_bits(word(s, k + 1)),
-    };
-    let point = of_bits(word(s, k + 2));
-    if function == 5 {
-        return elementary::lower_tail(law, point);
-    }
-    elementary::upper_tail(law, point)
-}
-
-// Where least and greatest are one pattern the answer has to have it: a NaN's, an infinity's, a zero's with its sign.
-fn is_allowed(got: f64, least: u64, greatest: u64) -> bool {
-    if least == greatest {
-        return bits_of(got) == least;
-    }
-    of_bits(least) <= got && got <= of_bits(greatest)
-}
-
-fn print_wrong(
-    rt: &impl Print,
-    function: usize,
+// A vector: the bits of the last argument, the answer, and the bits of the least and the greatest answer allowed.
+#[derive(Clone, Copy)]
+struct Vector {
+    function: Function,
     x: u64,
-    got: u64,
+    got: f64,
     least: u64,
     greatest: u64,
-) -> io::Result<()> {
-    let name = name_of(function);
-    println!(rt; "{name} {x:016x} is {got:016x}, not {least:016x} to {greatest:016x}")
 }
 
-// 1 where the vector from word k on is met, else 0.
-fn meets(rt: &impl Print, s: &[u8], function: usize, k: usize) -> io::Result<usize>
-    requires { k < 2 ^ 32 }
-    ensures { IfOk result (λ n. n ≤ 1) }
-{
-    let got = answer(s, function, k);
-    let last = k + arguments(function);
-    let least = word(s, last);
-    let greatest = word(s, last + 1);
-    if is_allowed(got, least, greatest) {
-        return Ok(1);
+impl fmt::Display for Vector {
+    fn fmt<W: fmt::Write>(&self, f: &mut fmt::Formatter<W>) -> fmt::Result {
+        let Vector {
+            function,
+            x,
+            got,
+            least,
+            greatest,
+        } = *self;
+        let got = bits_of(got);
+        write!(f, "{function} {x:016x} is {got:016x}, not {least:016x} to {greatest:016x}")
     }
-    print_wrong(
-        rt,
-        function,
-        word(s, last - 1),
-        bits_of(got),
-        least,
-        greatest,
-    )?;
-    Ok(0)
+}
+
+impl Vector {
+    // The vector of a function from word k on.
+    fn read(function: Function, words: &[Word], k: usize) -> Self
+        requires { k < 2 ^ 32 }
+    {
+        let last = k + function.arguments();
+        Vector {
+            function,
+            x: word(words, last - 1),
+            got: function.answer(words, k),
+            least: word(words, last),
+            greatest: word(words, last + 1),
+        }
+    }
+
+    // Where least and greatest are one pattern the answer has to have it: a NaN's, an infinity's, a zero's with its sign.
+    fn is_met(&self) -> bool {
+        if self.least == self.greatest {
+            return bits_of(self.got) == self.least;
+        }
+        of_bits(self.least) <= self.got && self.got <= of_bits(self.greatest)
+    }
 }
 
 // Replays a function's vectors, from word `from` on, and gives the word after them.
 fn replay_function(
     rt: &impl Print,
-    s: &[u8],
-    function: usize,
+    words: &[Word],
+    function: Function,
     from: usize,
     count: usize,
 ) -> io::Result<usize>
@@ -135,22 +153,27 @@ fn replay_function(
     let mut met: usize = 0;
     let mut k = from;
     for _vector in 0..count {
-        met = met + meets(rt, s, function, k)?;
-        k = k + arguments(function) + 2;
+        let v = Vector::read(function, words, k);
+        if v.is_met() {
+            met += 1;
+        } else {
+            println!(rt; "{v}")?;
+        }
+        k += function.arguments() + 2;
     }
-    let name = name_of(function);
-    println!(rt; "{name}: {count}, met {met}")?;
+    println!(rt; "{function}: {count}, met {met}")?;
     Ok(k)
 }
 
 fn replay(rt: &impl Print, s: &[u8]) -> io::Result<()> {
+    let (words, _) = s.as_chunks::<8>();
     let mut from: usize = 7;
-    for function in 0..7usize {
-        let count = word(s, function);
+    for function in FUNCTIONS {
+        let count = word(words, function as usize);
         if count >= 4096 {
             return println!(rt; "a count is too large");
         }
-        from = replay_function(rt, s, function, from, count as usize)?;
+        from = replay_function(rt, words, function, from, count as usize)?;
     }
     if s.len() != from * 8 {
         println!(rt; "the vectors do not end where their counts say")?;

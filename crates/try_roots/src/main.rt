@@ -3,105 +3,122 @@
 // numbers and their hypot.
 #![tactic(auto)]
 
-ghost use Rattle.std.specs.Prelude.{◌^◌, ◌<◌};
+ghost use Rattle.std.specs.Prelude.{◌*◌, ◌≤◌, length};
 
-use floats::bits::{bits_of, little_endian, of_bits};
+use floats::bits::{bits_of, of_bits};
+use std::fmt;
 use std::io;
 use std::io::Read;
 
 // No more of the input is read.
 const MOST_BYTES: u64 = 65_536;
 
-// Word k of the input, and 0 past its end.
-fn word(s: &[u8], k: usize) -> u64 {
-    if k < s.len() / 8 {
-        little_endian(s, k * 8, 8)
-    } else {
-        0
+// A word of the input.
+type Word = [u8; 8];
+
+#[derive(Clone, Copy)]
+enum Function {
+    Sqrt,
+    Hypot,
+}
+
+impl fmt::Display for Function {
+    fn fmt<W: fmt::Write>(&self, f: &mut fmt::Formatter<W>) -> fmt::Result {
+        f.write_str(match self {
+            Function::Sqrt => "sqrt",
+            Function::Hypot => "hypot",
+        })
     }
 }
 
-fn print_wrong(rt: &impl Print, name: &str, x: u64, y: u64, got: u64, want: u64) -> io::Result<()> {
-    println!(rt; "{name} {x:016x} {y:016x} is {got:016x}, not {want:016x}")
+// A vector: the function asked, the bits of its arguments, those of its answer, and those that are stored.
+#[derive(Clone, Copy)]
+struct Vector {
+    function: Function,
+    x: u64,
+    y: u64,
+    got: u64,
+    want: u64,
 }
 
-// Whether the root at word k is right.
-fn root_is_right(rt: &impl Print, s: &[u8], k: usize) -> io::Result<bool>
-    requires { k < 2 ^ 32 }
-{
-    let x = word(s, k);
-    let want = word(s, k + 1);
-    let got = bits_of(roots::sqrt(of_bits(x)));
-    if got == want {
-        return Ok(true);
+impl fmt::Display for Vector {
+    fn fmt<W: fmt::Write>(&self, f: &mut fmt::Formatter<W>) -> fmt::Result {
+        let Vector {
+            function,
+            x,
+            y,
+            got,
+            want,
+        } = *self;
+        write!(f, "{function} {x:016x} {y:016x} is {got:016x}, not {want:016x}")
     }
-    print_wrong(rt, "sqrt", x, 0, got, want)?;
-    Ok(false)
 }
 
-// Whether the hypot at word k is right.
-fn pair_is_right(rt: &impl Print, s: &[u8], k: usize) -> io::Result<bool>
-    requires { k < 2 ^ 32 }
-{
-    let x = word(s, k);
-    let y = word(s, k + 1);
-    let want = word(s, k + 2);
-    let got = bits_of(roots::hypot(of_bits(x), of_bits(y)));
-    if got == want {
-        return Ok(true);
+fn root(words: &[Word; 2]) -> Vector {
+    let x = u64::from_le_bytes(words[0]);
+    Vector {
+        function: Function::Sqrt,
+        x,
+        y: 0,
+        got: bits_of(roots::sqrt(of_bits(x))),
+        want: u64::from_le_bytes(words[1]),
     }
-    print_wrong(rt, "hypot", x, y, got, want)?;
-    Ok(false)
 }
 
-// How many of the roots from word 2 on are right.
-fn count_roots(rt: &impl Print, s: &[u8], count: usize) -> io::Result<usize>
-    requires { count < 2 ^ 16 }
+fn pair(words: &[Word; 3]) -> Vector {
+    let x = u64::from_le_bytes(words[0]);
+    let y = u64::from_le_bytes(words[1]);
+    Vector {
+        function: Function::Hypot,
+        x,
+        y,
+        got: bits_of(roots::hypot(of_bits(x), of_bits(y))),
+        want: u64::from_le_bytes(words[2]),
+    }
+}
+
+// How many of the vectors are right. Each is `read` from its words.
+fn count_right<T, F: Fn(&T) -> Vector>(
+    rt: &impl Print,
+    vectors: &[T],
+    read: F,
+) -> io::Result<usize>
+    requires { F.IsAlwaysCallable read }
 {
     let mut right: usize = 0;
-    for i in 0..count {
-        if root_is_right(rt, s, 2 + 2 * i)? {
-            right = right + 1;
+    for words in vectors {
+        let v = read(words);
+        if v.got == v.want {
+            right += 1;
+        } else {
+            println!(rt; "{v}")?;
         }
     }
     Ok(right)
 }
 
-// How many of the pairs from word `from` on are right.
-fn count_pairs(rt: &impl Print, s: &[u8], from: usize, count: usize) -> io::Result<usize>
-    requires { (from < 2 ^ 20) × (count < 2 ^ 16) }
+// The first `roots` vectors have two words, the others three.
+fn replay(rt: &impl Print, vectors: &[Word], roots: usize) -> io::Result<()>
+    requires { 2 * roots ≤ length vectors.now }
 {
-    let mut right: usize = 0;
-    for i in 0..count {
-        if pair_is_right(rt, s, from + 3 * i)? {
-            right = right + 1;
-        }
-    }
-    Ok(right)
-}
-
-fn replay(rt: &impl Print, s: &[u8], roots: usize, pairs: usize) -> io::Result<()>
-    requires { (roots < 2 ^ 16) × (pairs < 2 ^ 16) }
-{
-    let right_roots = count_roots(rt, s, roots)?;
-    let right_pairs = count_pairs(rt, s, 2 + 2 * roots, pairs)?;
-    println!(rt; "roots: {roots}, to the bit {right_roots}")?;
-    println!(rt; "pairs: {pairs}, to the bit {right_pairs}")
+    let (first, others) = vectors.split_at(2 * roots);
+    let (roots, _) = first.as_chunks::<2>();
+    let (pairs, _) = others.as_chunks::<3>();
+    let right_roots = count_right(rt, roots, root)?;
+    let right_pairs = count_right(rt, pairs, pair)?;
+    println!(rt; "roots: {}, to the bit {right_roots}", roots.len())?;
+    println!(rt; "pairs: {}, to the bit {right_pairs}", pairs.len())
 }
 
 fn main(rt: HostRuntime) -> io::Result<()> {
     let mut bytes = Vec::new(rt.alloc());
     rt.reader().take(MOST_BYTES).read_to_end(&mut bytes)?;
-    let s = &bytes[..];
-    let roots = word(s, 0);
-    let pairs = word(s, 1);
-    if roots < 4096 {
-        if pairs < 4096 {
-            let m = roots as usize;
-            let k = pairs as usize;
-            if s.len() == 16 + 16 * m + 24 * k {
-                return replay(&rt, s, m, k);
-            }
+    let (words, rest) = bytes[..].as_chunks::<8>();
+    if let [roots, pairs, vectors @ ..] = words {
+        let m = u64::from_le_bytes(*roots);
+        let k = u64::from_le_bytes(*pairs);
+        if m < 4096 && k < 4096 && rest.is_empty() && vectors.len() as u64 == 2 * m + 3 * k {
+            return replay(&rt, vectors, m as usize);
         }
     }
     println!(rt; "the vectors are cut short")

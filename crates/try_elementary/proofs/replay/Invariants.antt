@@ -3,4 +3,4 @@ use Prim.Native.Nat.{◌≤◌, ◌+◌, ◌*◌}
 use Rattle.try_elementary.proofs.replay.Given as goal
 
 abbrev pub invariant-loop-function : goal.invariant-loop-function
-invariant-loop-function g l = l.from ≤ 7 + 20480 * l.function
+invariant-loop-function g l = l.from ≤ 7 + 20480 * l.function-index

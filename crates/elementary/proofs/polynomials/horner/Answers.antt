@@ -1,28 +1,22 @@
-use Rattle.std.proofs.Common.{◌≡◌, ℕ, ◌+◌, ◌<◌, List, [], ◌∷◌, length, drop, sym, refl, ap, ◌∙◌, not-suc-le-zero, le_antisymm, add-one, arith, drop-cons, rules}
-use lib.Ieee.{Float, nan}
-use lib.Seq.{drop-length}
-use Rattle.floats.specs.Words.{◌⊕◌, ◌⊗◌, ◌‼◌}
+-- `horner`: the rule is a fold over the further coefficients.
+use Rattle.std.proofs.Common.{◌≡◌, List, [], ◌∷◌, fold, refl, ◌∙◌, rules, ap}
+use Rattle.std.proofs.iter.runs.Made.{chains}
+use Rattle.std.specs.List.{reduce}
+use Rattle.std.specs.Option.{unwrap_or}
+use lib.Ieee.{Float}
+use Rattle.floats.specs.Words.{◌⊕◌, ◌⊗◌, plus_zero}
 use Rattle.elementary.specs.Horner.{horner_from, horner}
 use Rattle.elementary.proofs.polynomials.horner.Goals as goal
 
--- the first coefficient, and the others
-first : (table : List Float) (x : Float) → 0 < length table → horner_from (table ‼ 0) (drop 1 table) x ≡ horner table x
-first [] x h = absurd (not-suc-le-zero h)
-first (c ∷ cs) x h = refl
+folded : (p x : Float) (cs : List Float) → fold (λ q c. q ⊗ x ⊕ c) p cs ≡ horner_from p cs x
+folded p x [] = refl
+folded p x (c ∷ cs) = folded (p ⊗ x ⊕ c) x cs
 
--- one coefficient more
-next : (table : List Float) (x p : Float) (k : ℕ) → k < length table → horner_from p (drop k table) x ≡ horner table x → horner_from (p ⊗ x ⊕ table ‼ k) (drop (k + 1) table) x ≡ horner table x
-next table x p k h e = rw add-one (ap (λ l. horner_from p l x) (sym (drop-cons table k nan h)) ∙ e)
-
--- none left
-last : (table : List Float) (x p : Float) (k : ℕ) → k ≡ length table → horner_from p (drop k table) x ≡ horner table x → p ≡ horner table x
-last table x p k h e = ap (λ l. horner_from p l x) (sym (ap (λ (j : ℕ). drop j table) h ∙ drop-length table)) ∙ e
-
-pub loop-k-init : goal.loop-k-init
-loop-k-init c = (omega arith, refl, first c.args.table.now c.args.x c.requires)
-
-pub loop-k-preserved : goal.loop-k-preserved
-loop-k-preserved c = (omega arith, search rules, next c.args.table.now c.args.x c.loop-k.p c.loop-k.k (search rules) c.loop-k.invariant.2)
+reduced : (table : List Float) (x : Float) → unwrap_or (reduce (λ q c. q ⊗ x ⊕ c) table) plus_zero ≡ horner table x
+reduced [] x = refl
+reduced (c ∷ cs) x = folded c x cs
 
 pub returns : goal.returns
-returns c = last c.args.table.now c.args.x c.loop-k.p c.loop-k.k (le_antisymm c.loop-k.invariant.0 (search rules)) c.loop-k.invariant.2
+returns c =
+    let e : c.reduce.result ≡ reduce (λ q d. q ⊗ c.args.x ⊕ d) c.args.table.now = search (rules, chains) in
+    c.unwrap_or.ensures ∙ ap (λ o. unwrap_or o plus_zero) e ∙ reduced c.args.table.now c.args.x

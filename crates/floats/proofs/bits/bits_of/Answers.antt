@@ -1,7 +1,6 @@
 -- A float that equals itself is no NaN, and may be asked for its pattern; one that does not is the NaN. Assumes nothing.
 use Rattle.floats.proofs.SignLaws.{no_nan, nan-of}
 use lib.Ieee.{to_bits}
-use borrow.Author.Rules.{rules}
 use Rattle.floats.proofs.bits.bits_of.Goals as goal
 
 pub float_to_bits-result : goal.float_to_bits-result

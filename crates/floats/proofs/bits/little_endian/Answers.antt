@@ -1,12 +1,9 @@
 use lib.Dec.{lit<}
-use Prim.Native.Nat.{◌^◌}
 use Rattle.floats.specs.Bits.{little_endian}
-use Prim.Native.Nat.{◌≤◌, ◌<◌, ◌-◌, ◌+◌}
 use native.Mathlib.Omega.{arith}
 use native.Mathlib.Nat.{le_antisymm, sub_self, add-zero}
 use Rattle.floats.proofs.ByteLaws.{byte_more, byte-bound, byte-room}
-use mathlib.Core.Path.{◌≡◌, refl, ◌∙◌}
-use borrow.Author.Rules.{rules}
+use mathlib.Core.Path.{refl, ◌∙◌}
 use Rattle.floats.proofs.bits.little_endian.Goals as goal
 
 pub loop-t-init : goal.loop-t-init

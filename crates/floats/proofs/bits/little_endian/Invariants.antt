@@ -1,13 +1,8 @@
 -- The loop goes from the last byte down: after t turns it has read the highest t of the k bytes. Assumes nothing.
-use lib.Dec.{lit<}
 use Prim.Native.Nat.{◌^◌}
 use Rattle.floats.specs.Bits.{little_endian}
 use Prim.Native.Nat.{◌≤◌, ◌<◌, ◌-◌, ◌+◌}
-use native.Mathlib.Omega.{arith}
-use native.Mathlib.Nat.{le_antisymm, sub_self, add-zero}
-use Rattle.floats.proofs.ByteLaws.{byte_more, byte-bound, byte-room}
-use mathlib.Core.Path.{◌≡◌, refl, ◌∙◌}
-use borrow.Author.Rules.{rules}
+use mathlib.Core.Path.{◌≡◌}
 use Rattle.floats.proofs.bits.little_endian.Given as goal
 
 abbrev pub invariant-loop-t : goal.invariant-loop-t

@@ -5,7 +5,6 @@ use lib.Dec.{T}
 use lib.Ieee.{Float, nan, inf, fin, binary64, of_bits, is_nan, div}
 use lib.Ieee.Bits.{nan_bits_is, nan_bits_above}
 use borrow.Author.Tests.{lt-ltb, le-ltb}
-use borrow.Author.Rules.{rules}
 use Rattle.floats.proofs.bits.of_bits.Goals as goal
 
 the_nan : (x : Float) → is_nan x ≡ true → x ≡ nan

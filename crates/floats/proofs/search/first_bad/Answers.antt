@@ -1,31 +1,17 @@
-use mathlib.Core.Bool.{not}
-use lib.Dec.{T}
-use lib.Ieee.{binary64, fits}
-use lib.Ieee.Scale.{finite}
-use Rattle.std.specs.Prelude.{None}
-use Rattle.floats.specs.Words.{◌‼◌}
-use Rattle.floats.specs.Search.{first_where, first_bad}
-use Rattle.floats.specs.Held.{all?}
-use Rattle.floats.proofs.FirstLaws.{first-at, first-not}
-use Rattle.floats.proofs.HeldLaws.{all-next}
-use Prim.Native.Nat.{◌≤◌, ◌-◌}
-use native.Mathlib.Omega.{arith}
-use mathlib.Core.Path.{◌≡◌, refl, sym}
-use lib.ListN.{length}
-use borrow.Author.Rules.{rules}
+use Rattle.std.proofs.Common.{rules, tests, ◌∙◌, not}
+use Rattle.std.proofs.lemmas.Iterator.{YieldsList-from_slice}
+use Rattle.std.proofs.lemmas.Iterator.Search.{position_from_yields_List}
+use Rattle.std.specs.Float.Ieee.Scale.{finite}
+use Rattle.floats.specs.Search.{first_bad}
+use Rattle.floats.proofs.FirstLaws.{position-first}
+use Rattle.floats.proofs.HeldLaws.{held_by}
 use Rattle.floats.proofs.search.first_bad.Goals as goal
 
-pub loop-t-init : goal.loop-t-init
-unfolding first_where all?
-loop-t-init c = (omega arith, refl, refl, tt)
-
-pub returns-then-not-is_finite : goal.returns-then-not-is_finite
+pub returns-clause-value : goal.returns-clause-value
 unfolding first_bad
-returns-then-not-is_finite c = record { value = sym (first-at _ {n = length c.args.xs.now} {i = c.loop-t.t} (omega arith) c.loop-t.invariant.2 (rw (← c.is_finite.ensures.value) c.if-not-is_finite.true-raw)); held_by = tt }
+returns-clause-value c =
+    position_from_yields_List (λ x. not (finite x)) _ _ c.position.result c.position.ensures.ran (YieldsList-from_slice c.args.xs.now cc) (λ x b q k. search (rules, tests))
+    ∙ position-first (λ x. not (finite x)) c.args.xs.now
 
-pub loop-t-preserved : goal.loop-t-preserved
-loop-t-preserved c = (omega arith, search rules, first-not _ _ c.loop-t.invariant.2 (rw (← c.is_finite.ensures.value) c.if-not-is_finite.false-raw), all-next _ _ c.loop-t.invariant.3 c.is_finite.ensures.held)
-
-pub returns : goal.returns
-unfolding first_bad
-returns c = let h : c.loop-t.t ≡ length c.args.xs.now = omega arith in record { value = sym (rw h at c.loop-t.invariant.2); held_by = rw h at c.loop-t.invariant.3 }
+pub returns-clause-held_by : goal.returns-clause-held_by
+returns-clause-held_by c = held_by _ _ c.type_inv.xs

@@ -1,6 +1,5 @@
 use borrow.Author.Tests.{not-true, not-false}
 use lib.Ieee.{eq, ne}
-use borrow.Author.Rules.{rules}
 use Rattle.floats.proofs.signs.comes_before.Goals as goal
 
 pub returns-then-x-y : goal.returns-then-x-y

@@ -1,4 +1,3 @@
-use borrow.Author.Rules.{rules}
 use Rattle.floats.proofs.signs.copysign.Goals as goal
 
 pub returns-then-is_minus : goal.returns-then-is_minus

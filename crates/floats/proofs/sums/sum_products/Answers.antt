@@ -1,20 +1,18 @@
-use Rattle.floats.specs.Sums.{sum_of, sum_products}
+use Rattle.std.proofs.Common.{rules, tests, ◌∙◌, ◌+◌}
+use Rattle.std.proofs.lemmas.Iterator.{YieldsList-from_slice, YieldsList-from_zip}
+use Rattle.std.proofs.lemmas.Iterator.Consumers.{fold_from_yields_List}
 use lib.Ieee.{neg, of_bits}
-use Prim.Native.Nat.{◌≤◌, ◌-◌}
-use native.Mathlib.Omega.{arith}
-use native.Mathlib.Numerals.{add-one}
-use native.Mathlib.Nat.{le_antisymm}
-use mathlib.Core.Path.{◌≡◌, refl}
-use borrow.Author.Rules.{rules}
+use Rattle.floats.specs.Tables.{part}
+use Rattle.floats.specs.Words.{◌⊕◌, ◌⊗◌}
+use Rattle.floats.proofs.FoldLaws.{fold-stretches}
 use Rattle.floats.proofs.sums.sum_products.Goals as goal
 
-pub loop-t-init : goal.loop-t-init
-unfolding sum_of neg of_bits
-loop-t-init c = (omega arith, refl)
-
-pub loop-t-preserved : goal.loop-t-preserved
-unfolding sum_of
-loop-t-preserved c = (omega arith, rw (add-one c.loop-t.t) (cc))
-
 pub returns : goal.returns
-returns c = cc (le_antisymm c.loop-t.invariant.0 c.loop-t-test.false)
+unfolding neg of_bits
+returns c =
+    let xs = c.args.xs.now in
+    let ys = c.args.ys.now in
+    fold_from_yields_List _ (λ s p. s ⊕ p.0 ⊗ p.1) _ c.fold.result c.fold.ensures.ran
+    (YieldsList-from_zip (YieldsList-from_slice (part c.args.a (c.args.a + c.args.n) xs) cc) (YieldsList-from_slice (part c.args.b (c.args.b + c.args.n) ys) cc))
+    (λ a x b q k. search (rules, tests))
+    ∙ fold-stretches xs ys c.args.a c.args.b c.args.n c.requires.0 c.requires.1

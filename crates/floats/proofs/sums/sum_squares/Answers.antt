@@ -1,21 +1,14 @@
-use Rattle.floats.specs.Words.{◌‼◌, square_of}
-use Rattle.floats.specs.Sums.{sum_of}
+use Rattle.std.proofs.Common.{rules, tests, ◌∙◌}
+use Rattle.std.proofs.lemmas.Iterator.{YieldsList-from_slice}
+use Rattle.std.proofs.lemmas.Iterator.Consumers.{fold_from_yields_List}
+use Rattle.std.specs.Float.{nan}
 use lib.Ieee.{neg, of_bits}
-use Prim.Native.Nat.{◌≤◌, ◌-◌}
-use native.Mathlib.Omega.{arith}
-use native.Mathlib.Numerals.{add-one}
-use mathlib.Core.Path.{◌≡◌, refl}
-use lib.ListN.{length}
-use borrow.Author.Rules.{rules}
+use Rattle.floats.specs.Words.{◌⊕◌, square_of}
+use Rattle.floats.proofs.FoldLaws.{fold-sum}
 use Rattle.floats.proofs.sums.sum_squares.Goals as goal
 
-pub loop-t-init : goal.loop-t-init
-unfolding sum_of neg of_bits
-loop-t-init c = (omega arith, refl, refl)
-
-pub loop-t-preserved : goal.loop-t-preserved
-unfolding sum_of
-loop-t-preserved c = (omega arith, search rules, rw add-one (cc))
-
 pub returns : goal.returns
-returns c = let h : c.loop-t.t ≡ length c.args.xs.now = omega arith in cc
+unfolding neg of_bits
+returns c =
+    fold_from_yields_List _ (λ s x. s ⊕ square_of x) _ c.fold.result c.fold.ensures.ran (YieldsList-from_slice c.args.xs.now cc) (λ a x b q k. search (rules, tests))
+    ∙ fold-sum square_of nan c.args.xs.now

@@ -9,8 +9,8 @@ overflow_add-result c = omega (arith, digits-below (omega (arith, c.requires)) c
 pub returns-then-r : goal.returns-then-r
 returns-then-r c = let n = c.near-r.ensures in record { low = omega (arith, n.apart, c.if-r.true); high = omega (arith, n.high) }
 
-pub returns : goal.returns
-returns c =
+pub returns-else-r : goal.returns-else-r
+returns-else-r c =
     let n = c.near-r.ensures in
     let square-below = mul-le-mul_left c.near-r.result.c (le_of_lt (digits-below (omega (arith, c.requires)) n)) in
     record { low = omega (arith, n.low, n.high, square-below); high = omega (arith, n.apart, c.if-r.false) }

@@ -1,9 +1,0 @@
--- `root_below`: the leading digits, and their root (Window.antt).
-use Rattle.roots.proofs.Window.{window, root_below}
-use Rattle.roots.proofs.sums.root_below.Goals as goal
-
-pub near-r-requires : goal.near-r-requires
-near-r-requires c = let w = window c.leading-s.ensures in (w.from, w.below)
-
-pub returns : goal.returns
-returns c = root_below c.leading-s.ensures c.near-r.ensures

@@ -1,5 +1,0 @@
-use Prim.Native.Nat.{◌≤◌}
-use Rattle.try_roots.proofs.count_roots.Given as goal
-
-abbrev pub invariant-loop-i : goal.invariant-loop-i
-invariant-loop-i g l = l.right ≤ l.i
