@@ -39,7 +39,7 @@ pub fn fields_of(i: usize, o: Outcome) -> [u64; FIELDS]
         why.place as u64,
         bits_of(o.statistic),
         bits_of(o.p),
-        o.path as u64,
+        u64::from(o.path),
         o.fallback as u64,
         o.kept as u64,
         work.sweeps as u64,
@@ -50,6 +50,7 @@ pub fn fields_of(i: usize, o: Outcome) -> [u64; FIELDS]
 }
 
 // Puts the line of sheet `i` at the front of `out`, and gives its length; 0, and `out` as it was, where `out` is shorter than the longest line.
+// 0 is kept for no room, here and below: `front_length` promises it.
 pub fn write_line(i: usize, o: Outcome, out: &mut [u8]) -> usize
     ensures value { result ≡ front_length longest (line_of (fields_of i o)) out.old }
     ensures out_after { out.new ≡ fronted longest (line_of (fields_of i o)) out.old }
