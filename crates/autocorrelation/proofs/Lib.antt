@@ -8,3 +8,4 @@ pub mod Powers
 pub mod Range
 pub mod Theorems
 pub mod Sheets
+pub mod Neighbours

@@ -15,12 +15,12 @@ use lib.IntN.{ℤ, nat_abs, ◌-ℤ◌}
 use lib.Ieee.{Float, eq}
 use lib.Ieee.Scale.{finite}
 use lib.Ieee.Fits.{and_l, and_r}
-use Rattle.std.specs.Prelude.{Option, Some, None}
 use Rattle.floats.specs.Words.{◌‼◌, plus_zero}
 use Rattle.floats.specs.Search.{first_bad}
+use Rattle.std.specs.Prelude.{Option, Some, None, Result, Ok, Err}
 use Rattle.floats.proofs.FirstLaws.{none-at}
-use Rattle.autocorrelation.specs.declared.Statistic.{Statistic}
-use Rattle.autocorrelation.specs.declared.Statistic.TheVariants.{Value, Empty, Single, NotFinite, ZeroSum, Overflow}
+use Rattle.autocorrelation.specs.declared.StatisticError.{StatisticError}
+use Rattle.autocorrelation.specs.declared.StatisticError.TheVariants.{Empty, Single, NotFinite, ZeroSum, Overflow}
 use Rattle.autocorrelation.specs.Statistic.{squares, differences, durbin_watson, durbin_watson_answer, of_found, value}
 use Rattle.autocorrelation.specs.Bound.{exact, sized?}
 use Rattle.autocorrelation.proofs.Units.{Number, number_size, apart-is}
@@ -58,38 +58,34 @@ pub record Accepted (e : List Float) (d : Float) : Type 0 where
   pub is : durbin_watson e ≡ d
 
 -- a reason why there is no statistic is no value
-abbrev is_value : Statistic → ℕ
-is_value (Value d) = 1
-is_value Empty = 0
-is_value Single = 0
-is_value (NotFinite t) = 0
-is_value ZeroSum = 0
-is_value Overflow = 0
+abbrev is_value : Result Float StatisticError → ℕ
+is_value (Ok d) = 1
+is_value (Err why) = 0
 
-refused : (x : Statistic) (d : Float) → is_value x ≡ 0 → x ≡ Value d → ⊥
+refused : (x : Result Float StatisticError) (d : Float) → is_value x ≡ 0 → x ≡ Ok d → ⊥
 refused x d p h = omega (arith, p, ap is_value h)
 
-past : (b : Bool) (x y : Statistic) (d : Float) → is_value x ≡ 0 → cond b x y ≡ Value d → (b ≡ false) × (y ≡ Value d)
+past : (b : Bool) (x y : Result Float StatisticError) (d : Float) → is_value x ≡ 0 → cond b x y ≡ Ok d → (b ≡ false) × (y ≡ Ok d)
 past true x y d p h = absurd (refused x d p h)
 past false x y d p h = (refl, h)
 
-unfound : (f : Option ℕ) (e : List Float) (d : Float) → of_found f e ≡ Value d → f ≡ None
+unfound : (f : Option ℕ) (e : List Float) (d : Float) → of_found f e ≡ Ok d → f ≡ None
 unfound None e d h = refl
-unfound (Some t) e d h = absurd (refused (NotFinite t) d refl h)
+unfound (Some t) e d h = absurd (refused (Err (NotFinite t)) d refl h)
 
-both : (a b : Bool) (x y : Statistic) (d : Float) → is_value y ≡ 0 → cond (a && b) x y ≡ Value d → (a ≡ true) × (b ≡ true) × (x ≡ Value d)
+both : (a b : Bool) (x y : Result Float StatisticError) (d : Float) → is_value y ≡ 0 → cond (a && b) x y ≡ Ok d → (a ≡ true) × (b ≡ true) × (x ≡ Ok d)
 both true true x y d p h = (refl, refl, h)
 both true false x y d p h = absurd (refused y d p h)
 both false b x y d p h = absurd (refused y d p h)
 
-pub accepted : (e : List Float) (d : Float) → durbin_watson_answer e ≡ Value d → Accepted e d
+pub accepted : (e : List Float) (d : Float) → durbin_watson_answer e ≡ Ok d → Accepted e d
 unfolding durbin_watson_answer
 accepted e d h =
-    let a = past _ Empty _ d refl h in
-    let b = past _ Single _ d refl a.1 in
+    let a = past _ (Err Empty) _ d refl h in
+    let b = past _ (Err Single) _ d refl a.1 in
     let none : first_bad e ≡ None = unfound (first_bad e) e d b.1 in
-    let c = past _ ZeroSum _ d refl (rw none at b.1) in
-    let v = both _ _ _ Overflow d refl c.1 in
+    let c = past _ (Err ZeroSum) _ d refl (rw none at b.1) in
+    let v = both _ _ _ (Err Overflow) d refl c.1 in
     record {
       many = few (length e) (eqb-false (length e) 0 a.0) (eqb-false (length e) 1 b.0);
       numbers = none;

@@ -10,7 +10,8 @@ use Rattle.floats.specs.Words.{float, plus_zero, one, two}
 use Rattle.floats.specs.Sums.{sum_of}
 use Rattle.floats.specs.Search.{first_bad}
 use Rattle.floats.specs.Held.{all?}
-use Rattle.autocorrelation.specs.declared.Statistic.TheVariants.{Value, Single, NotFinite, ZeroSum, Overflow}
+use Rattle.std.specs.Prelude.{Ok, Err}
+use Rattle.autocorrelation.specs.declared.StatisticError.TheVariants.{Single, NotFinite, ZeroSum, Overflow}
 use Rattle.autocorrelation.specs.Statistic.{durbin_watson, durbin_watson_answer}
 use Rattle.autocorrelation.specs.Bound.{exact, exact_sum, exact_squares, exact_differences, Accurate}
 use Rattle.autocorrelation.proofs.Theorems.{sure}
@@ -40,16 +41,16 @@ sheets =
     ∷ []
 
 pub worked : map durbin_watson_answer sheets ≡
-    Value two
-    ∷ Value (float 0x4008000000000000)
-    ∷ Value one
-    ∷ Value (float 0x3fe0000000000000)
-    ∷ Value two
-    ∷ Single
-    ∷ ZeroSum
-    ∷ Overflow
-    ∷ ZeroSum
-    ∷ NotFinite 1
+    Ok two
+    ∷ Ok (float 0x4008000000000000)
+    ∷ Ok one
+    ∷ Ok (float 0x3fe0000000000000)
+    ∷ Ok two
+    ∷ Err Single
+    ∷ Err ZeroSum
+    ∷ Err Overflow
+    ∷ Err ZeroSum
+    ∷ Err (NotFinite 1)
     ∷ []
 unfolding durbin_watson_answer first_bad sum_of add sub mul div eq neg of_bits
 worked = refl

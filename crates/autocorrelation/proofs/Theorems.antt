@@ -13,14 +13,13 @@ use lib.Ieee.{Float, binary64, eq, le, fits, of_bits}
 use lib.Ieee.Exact.{HasValue}
 use lib.Ieee.Order.{le_of_values}
 use lib.Ieee.Scale.{finite}
-use Rattle.std.specs.Prelude.{None}
 use Rattle.floats.specs.Words.{◌‼◌, plus_zero}
 use Rattle.floats.specs.Search.{first_bad}
+use Rattle.std.specs.Prelude.{None, Result, Ok}
 use Rattle.floats.specs.Held.{held?}
 use Rattle.floats.specs.Limits.{max_rows}
 use Rattle.floats.proofs.HeldLaws.{all-at}
-use Rattle.autocorrelation.specs.declared.Statistic.{Statistic}
-use Rattle.autocorrelation.specs.declared.Statistic.TheVariants.{Value}
+use Rattle.autocorrelation.specs.declared.StatisticError.{StatisticError}
 use Rattle.autocorrelation.specs.Statistic.{squares, durbin_watson, durbin_watson_answer}
 use Rattle.autocorrelation.specs.Bound.{exact, exact_difference, exact_squares, exact_differences, Accurate, sized?, numbers_sized?, differences_sized?, Sure, Told}
 use Rattle.autocorrelation.proofs.Units.{Number, number, valued-finite}
@@ -59,7 +58,7 @@ statistic-accurate-narrow e a b h f s p =
     size t g = among 220 (exact (e ‼ t)) (all-at (length e) (λ t. sized? 220 (exact (e ‼ t))) t p g)
 
 -- ---- of a statistic that the definition gives
-module _ (e : List Float) (d : Float) (v : durbin_watson_answer e ≡ Value d) (h : T (held? e)) where
+module _ (e : List Float) (d : Float) (v : durbin_watson_answer e ≡ Ok d) (h : T (held? e)) where
   abbrev run : Accepted e d
   run = accepted e d v
 
@@ -84,34 +83,34 @@ module _ (e : List Float) (d : Float) (v : durbin_watson_answer e ≡ Value d) (
   pub sure : Sure d e
   sure = record { held = h; is_finite = ranged.0; not_negative = ranged.1; accurate = bounded; accurate-narrow = bounded-narrow }
 
-pub answer-accurate : (e : List Float) (d : Float) → durbin_watson_answer e ≡ Value d → length e ≤ 256 → T (held? e)
+pub answer-accurate : (e : List Float) (d : Float) → durbin_watson_answer e ≡ Ok d → length e ≤ 256 → T (held? e)
     → T (numbers_sized? 250 e) → T (differences_sized? 250 e) → Accurate (length e) d (exact_differences e) (exact_squares e)
 answer-accurate e d v b h p q = bounded e d v h b p q
 
-pub answer-accurate-narrow : (e : List Float) (d : Float) → durbin_watson_answer e ≡ Value d → length e ≤ 256 → T (held? e)
+pub answer-accurate-narrow : (e : List Float) (d : Float) → durbin_watson_answer e ≡ Ok d → length e ≤ 256 → T (held? e)
     → T (numbers_sized? 220 e) → Accurate (length e) d (exact_differences e) (exact_squares e)
 answer-accurate-narrow e d v b h p = bounded-narrow e d v h b p
 
 -- a statistic that the definition gives is finite and not negative
-pub answer-finite : (e : List Float) (d : Float) → durbin_watson_answer e ≡ Value d → T (held? e) → T (finite d) × T (le plus_zero d)
+pub answer-finite : (e : List Float) (d : Float) → durbin_watson_answer e ≡ Ok d → T (held? e) → T (finite d) × T (le plus_zero d)
 answer-finite e d v h = ranged e d v h
 
 -- any two answers that equal the definition's are one
-pub one_answer : (e : List Float) (r s : Statistic) → r ≡ durbin_watson_answer e → s ≡ durbin_watson_answer e → r ≡ s
+pub one_answer : (e : List Float) (r s : Result Float StatisticError) → r ≡ durbin_watson_answer e → s ≡ durbin_watson_answer e → r ≡ s
 one_answer e r s p q = p ∙ sym q
 
 -- ---- of every answer that the promise of `durbin_watson` allows
 module _ (e : List Float) where
-  abbrev pub Promised : Statistic → Type 0
+  abbrev pub Promised : Result Float StatisticError → Type 0
   Promised r = (r ≡ durbin_watson_answer e) × Told r e
 
   -- any two are one
-  pub one-promised : (r s : Statistic) → Promised r → Promised s → r ≡ s
+  pub one-promised : (r s : Result Float StatisticError) → Promised r → Promised s → r ≡ s
   one-promised r s p q = one_answer e r s p.0 q.0
 
-  module _ (r : Statistic) (promised : Promised r) (d : Float) (v : r ≡ Value d) where
+  module _ (r : Result Float StatisticError) (promised : Promised r) (d : Float) (v : r ≡ Ok d) where
     known : Sure d e
-    known = subst (λ (s : Statistic). Told s e) v promised.1
+    known = subst (λ (s : Result Float StatisticError). Told s e) v promised.1
 
     -- THE BOUND, where every number and every exact difference of neighbours is 0 or from 2^-250 to 2^250 in size
     pub promised-accurate : length e ≤ max_rows → T (numbers_sized? 250 e) → T (differences_sized? 250 e) → Accurate (length e) d (exact_differences e) (exact_squares e)

@@ -1,15 +1,15 @@
 -- How far the computed statistic may lie from the exact one, in whole numbers, and the rules on sizes under which it is proved (document 01, demand 3).
 -- A number is counted in units of 2^-1074, the least binary64 value above 0; a square, and a sum of squares, in units of 2^-2148.
 -- Definitions only. Assumes nothing.
-use Rattle.std.specs.Prelude.{ℕ, zero, suc, ◌+◌, ◌-◌, ◌*◌, ◌/◌, ◌^◌, ◌≤◌, ◌<◌, Bool, ◌&&◌, ◌||◌, cond, List, T, leb, eqb, ℤ, pos, neg_ℤ, nat_abs, ◌-ℤ◌, ◌*ℤ◌, length, Float}
+use Rattle.std.specs.Prelude.{ℕ, zero, suc, ◌+◌, ◌-◌, ◌*◌, ◌/◌, ◌^◌, ◌≤◌, ◌<◌, Bool, ◌&&◌, ◌||◌, cond, List, T, leb, eqb, ℤ, pos, neg_ℤ, nat_abs, ◌-ℤ◌, ◌*ℤ◌, length, Float, Result, Ok, Err}
 use Rattle.std.specs.Float.{nan, inf, fin}
 use Rattle.std.specs.Float.Ieee.{up, down, le}
 use Rattle.std.specs.Float.Ieee.Scale.{finite}
 use Rattle.floats.specs.Words.{◌‼◌, plus_zero}
 use Rattle.floats.specs.Held.{all?, held?}
 use Rattle.floats.specs.Limits.{max_rows}
-use Rattle.autocorrelation.specs.declared.Statistic.{Statistic}
-use Rattle.autocorrelation.specs.declared.Statistic.TheVariants.{Value, Empty, Single, NotFinite, ZeroSum, Overflow}
+use Rattle.autocorrelation.specs.declared.StatisticError.{StatisticError}
+use Rattle.autocorrelation.specs.declared.StatisticError.TheVariants.{Empty, Single, NotFinite, ZeroSum, Overflow}
 
 -- a with a sign: -a where s is true
 abbrev pub signed : Bool → ℕ → ℤ
@@ -77,10 +77,10 @@ pub record Sure (d : Float) (e : List Float) : Type 0 where
   pub accurate-narrow : length e ≤ max_rows → T (numbers_sized? 220 e) → Accurate (length e) d (exact_differences e) (exact_squares e)
 
 -- of every answer: where all residuals were found finite, binary64 holds the run
-abbrev pub Told : Statistic → List Float → Type 0
-Told (Value d) e = Sure d e
-Told Empty e = Unit
-Told Single e = Unit
-Told (NotFinite t) e = Unit
-Told ZeroSum e = T (held? e)
-Told Overflow e = T (held? e)
+abbrev pub Told : Result Float StatisticError → List Float → Type 0
+Told (Ok d) e = Sure d e
+Told (Err Empty) e = Unit
+Told (Err Single) e = Unit
+Told (Err (NotFinite t)) e = Unit
+Told (Err ZeroSum) e = T (held? e)
+Told (Err Overflow) e = T (held? e)

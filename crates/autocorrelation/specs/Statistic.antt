@@ -1,14 +1,14 @@
 -- The Durbin-Watson statistic of a run of residuals e, and what `durbin_watson` answers, or why there is none (Durbin and Watson 1950).
 -- A run is a list of binary64 values, numbered from 0; ⊖, ⊗ and ⊘ round once, and sums run first to last from -0 (crate floats).
 -- Definitions only. Assumes nothing.
-use Rattle.std.specs.Prelude.{ℕ, ◌+◌, ◌-◌, cond, ◌&&◌, List, length, eqb, Float, Option, Some, None}
+use Rattle.std.specs.Prelude.{ℕ, ◌+◌, ◌-◌, cond, ◌&&◌, List, length, eqb, Float, Option, Some, None, Result, Ok, Err}
 use Rattle.std.specs.Float.Ieee.{eq}
 use Rattle.std.specs.Float.Ieee.Scale.{finite}
 use Rattle.floats.specs.Words.{◌⊖◌, ◌⊘◌, ◌‼◌, plus_zero, square_of}
 use Rattle.floats.specs.Sums.{sum_of, sum_squares}
 use Rattle.floats.specs.Search.{first_bad}
-use Rattle.autocorrelation.specs.declared.Statistic.{Statistic}
-use Rattle.autocorrelation.specs.declared.Statistic.TheVariants.{Value, Empty, Single, NotFinite, ZeroSum, Overflow}
+use Rattle.autocorrelation.specs.declared.StatisticError.{StatisticError}
+use Rattle.autocorrelation.specs.declared.StatisticError.TheVariants.{Empty, Single, NotFinite, ZeroSum, Overflow}
 
 -- the sum of (e t - e (t - 1))² for t from 1 to n - 1
 abbrev pub differences : List Float → Float
@@ -23,21 +23,17 @@ abbrev pub durbin_watson : List Float → Float
 durbin_watson e = differences e ⊘ squares e
 
 -- of two residuals or more, the first that is not finite being found or not
-abbrev pub of_found : Option ℕ → List Float → Statistic
-of_found (Some t) e = NotFinite t
+abbrev pub of_found : Option ℕ → List Float → Result Float StatisticError
+of_found (Some t) e = Err (NotFinite t)
 of_found None e =
-    cond (eq (squares e) plus_zero) ZeroSum
-    (cond (finite (squares e) && finite (differences e)) (Value (durbin_watson e)) Overflow)
+    cond (eq (squares e) plus_zero) (Err ZeroSum)
+    (cond (finite (squares e) && finite (differences e)) (Ok (durbin_watson e)) (Err Overflow))
 
 -- the first reason why there is none, else the statistic
-unfoldable pub durbin_watson_answer : List Float → Statistic
-durbin_watson_answer e = cond (eqb (length e) 0) Empty (cond (eqb (length e) 1) Single (of_found (first_bad e) e))
+unfoldable pub durbin_watson_answer : List Float → Result Float StatisticError
+durbin_watson_answer e = cond (eqb (length e) 0) (Err Empty) (cond (eqb (length e) 1) (Err Single) (of_found (first_bad e) e))
 
 -- the statistic, +0 where there is none
-abbrev pub value : Statistic → Float
-value (Value d) = d
-value Empty = plus_zero
-value Single = plus_zero
-value (NotFinite t) = plus_zero
-value ZeroSum = plus_zero
-value Overflow = plus_zero
+abbrev pub value : Result Float StatisticError → Float
+value (Ok d) = d
+value (Err why) = plus_zero

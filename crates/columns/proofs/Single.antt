@@ -5,16 +5,18 @@ use mathlib.Core.List.{List}
 use Prim.Native.Nat.{ℕ}
 use lib.Ieee.{Float}
 use Rattle.columns.specs.Sheet.{size_of, columns_of, too_few_rows}
-use Rattle.columns.specs.declared.SizeAnswer.{SizeAnswer}
-use Rattle.columns.specs.declared.Columns.{Columns}
+use Rattle.std.specs.Prelude.{Result}
+use Rattle.columns.specs.declared.SheetSize.{SheetSize}
+use Rattle.columns.specs.declared.SizeError.{SizeError}
+use Rattle.columns.specs.declared.ColumnsError.{ColumnsError}
 
 pub both : {A : Type 0} {r s t : A} → r ≡ t → s ≡ t → r ≡ s
 both p q = p ∙ sym q
 
-pub size-single : (n k : ℕ) (r s : SizeAnswer) → r ≡ size_of n k → s ≡ size_of n k → r ≡ s
+pub size-single : (n k : ℕ) (r s : Result SheetSize SizeError) → r ≡ size_of n k → s ≡ size_of n k → r ≡ s
 size-single n k r s = both
 
-pub columns-single : (x : List Float) (n k : ℕ) (r s : Columns) → r ≡ columns_of x n k → s ≡ columns_of x n k → r ≡ s
+pub columns-single : (x : List Float) (n k : ℕ) (r s : Result SheetSize ColumnsError) → r ≡ columns_of x n k → s ≡ columns_of x n k → r ≡ s
 columns-single x n k r s = both
 
 pub rows-single : (n k : ℕ) (r s : Bool) → r ≡ too_few_rows n k → s ≡ too_few_rows n k → r ≡ s

@@ -1,9 +1,9 @@
 // The size of a sheet, and the checks of its columns. The k columns of n rows are one run, column after column.
 #![tactic(auto)]
 
-ghost use Rattle.std.specs.Prelude.{◌≡◌, ◌≤◌};
+ghost use Rattle.std.specs.Prelude.{◌≡◌, ◌≤◌, MatchResult};
 ghost use Rattle.floats.specs.Limits.{max_rows, max_columns};
-ghost use Rattle.columns.specs.Sheet.{size_of, run_of, columns_of, too_few_rows};
+ghost use Rattle.columns.specs.Sheet.{size_of, over, run_of, columns_of, too_few_rows, Design};
 
 use floats::limits::{MAX_COLUMNS, MAX_ROWS};
 use floats::search::first_bad;
@@ -15,9 +15,9 @@ pub struct SheetSize {
     pub columns: usize,
 }
 
-#[derive(Clone, Copy)]
-pub enum SizeAnswer {
-    Fits(SheetSize),
+// Which limit is passed; of both, that of rows.
+#[derive(Clone, Copy, Debug, PartialEq, Eq)]
+pub enum SizeError {
     TooManyRows,
     TooManyColumns,
 }
@@ -27,59 +27,83 @@ impl SheetSize {
 
     pub const MAX_COLUMNS: usize = MAX_COLUMNS;
 
-    pub fn new(n: usize, k: usize) -> SizeAnswer
+    pub fn new(n: usize, k: usize) -> Result<SheetSize, SizeError>
         ensures { result ≡ size_of n k }
     {
         if n > SheetSize::MAX_ROWS {
-            return SizeAnswer::TooManyRows;
+            return Err(SizeError::TooManyRows);
         }
         if k > SheetSize::MAX_COLUMNS {
-            return SizeAnswer::TooManyColumns;
+            return Err(SizeError::TooManyColumns);
         }
-        SizeAnswer::Fits(SheetSize {
+        Ok(SheetSize {
             rows: n,
             columns: k,
         })
     }
 }
 
-// What the columns are found to be: sound, with their size, or what is wrong first.
-#[derive(Clone, Copy)]
-pub enum Columns {
+// What is wrong with the columns first.
+#[derive(Clone, Copy, Debug, PartialEq, Eq)]
+pub enum ColumnsError {
     NoColumn,
     RowsOver,
     ColumnsOver,
     WrongLength,
     NotFinite(usize),
-    Sound(SheetSize),
 }
 
-pub fn check_columns(columns: &[f64], n: usize, k: usize) -> Columns
+impl From<SizeError> for ColumnsError {
+    ghost from_gives = { λ why error. error ≡ over why };
+
+    fn from(why: SizeError) -> ColumnsError {
+        match why {
+            SizeError::TooManyRows => ColumnsError::RowsOver,
+            SizeError::TooManyColumns => ColumnsError::ColumnsOver,
+        }
+    }
+}
+
+// The size of sound columns, or what is wrong with them.
+pub fn check_columns(columns: &[f64], n: usize, k: usize) -> Result<SheetSize, ColumnsError>
     ensures { result ≡ columns_of columns.now n k }
 {
     if k == 0 {
-        return Columns::NoColumn;
+        return Err(ColumnsError::NoColumn);
     }
-    let answer = SheetSize::new(n, k);
-    match answer {
-        SizeAnswer::TooManyRows => Columns::RowsOver,
-        SizeAnswer::TooManyColumns => Columns::ColumnsOver,
-        SizeAnswer::Fits(size) => check_run(columns, size),
-    }
+    let size = SheetSize::new(n, k)?;
+    check_run(columns, size)
 }
 
 // The run of a size that fits: its length, then its numbers.
-fn check_run(columns: &[f64], size: SheetSize) -> Columns
+fn check_run(columns: &[f64], size: SheetSize) -> Result<SheetSize, ColumnsError>
     requires { (size.rows ≤ max_rows) × (size.columns ≤ max_columns) }
     ensures { result ≡ run_of columns.now size }
 {
     if columns.len() != size.columns * size.rows {
-        return Columns::WrongLength;
+        return Err(ColumnsError::WrongLength);
     }
-    let bad = first_bad(columns);
-    match bad {
-        Some(t) => Columns::NotFinite(t),
-        None => Columns::Sound(size),
+    match first_bad(columns) {
+        Some(t) => Err(ColumnsError::NotFinite(t)),
+        None => Ok(size),
+    }
+}
+
+// Sound columns with their size: k columns of n rows within the limits.
+#[derive(Clone, Copy)]
+pub struct Sheet<'a> {
+    pub run: &'a [f64],
+    pub size: SheetSize,
+    pub ghost design: { Design size run.now },
+}
+
+impl<'a> Sheet<'a> {
+    // The sheet, or what is wrong with its columns.
+    pub fn new(run: &'a [f64], n: usize, k: usize) -> Result<Sheet<'a>, ColumnsError>
+        ensures { MatchResult result (λ sheet. (sheet.run ≡ run.entry) × (columns_of run.entry.now n k ≡ Ok sheet.size)) (λ why. columns_of run.entry.now n k ≡ Err why) }
+    {
+        let size = check_columns(run, n, k)?;
+        Ok(Sheet { run, size })
     }
 }
 

@@ -5,7 +5,6 @@ use Prim.Native.Nat.{ℕ, ◌+◌}
 use native.Mathlib.Numerals.{add-one}
 use lib.ListN.{set}
 use lib.Ieee.{Float}
-use Rattle.std.specs.Prelude.{None}
 use Rattle.floats.specs.Words.{◌⊘◌}
 use Rattle.floats.specs.Turns.{turns}
 use Rattle.design.specs.Matrix.{Matrix, row_at, entry, zero_row, zero_matrix}
@@ -13,8 +12,8 @@ use Rattle.design.specs.Factor.{rest_of, left_to, left_of, with_root, factor_of,
 use mathlib.Core.Bool.{true}
 use Prim.Native.Nat.{◌<◌}
 use Rattle.floats.specs.Search.{first_where}
+use Rattle.std.specs.Prelude.{None, Ok, Err}
 use Rattle.floats.proofs.FirstLaws.{first-at}
-use Rattle.design.specs.declared.Pivots.TheVariants.{Hold, Fails}
 
 module _ (x : List Float) (n : ℕ) where
   pub left-none : (l : Matrix) (i : ℕ) → left_to x n l i 0 ≡ zero_row
@@ -34,10 +33,10 @@ module _ (x : List Float) (n : ℕ) where
   factor-more i = rw (add-one i)
 
   -- the answer, where the pivots before held
-  pub fails-first : {k i : ℕ} → i < k → first_where i (fails_at x n) ≡ None → fails_at x n i ≡ true → pivots_of x n k ≡ Fails i
+  pub fails-first : {k i : ℕ} → i < k → first_where i (fails_at x n) ≡ None → fails_at x n i ≡ true → pivots_of x n k ≡ Err (record { 0 = i })
   unfolding pivots_of
   fails-first h none e = rw (first-at (fails_at x n) h none e)
 
-  pub hold-all : (k : ℕ) → first_where k (fails_at x n) ≡ None → pivots_of x n k ≡ Hold
+  pub hold-all : (k : ℕ) → first_where k (fails_at x n) ≡ None → pivots_of x n k ≡ Ok tt
   unfolding pivots_of
   hold-all k none = rw none

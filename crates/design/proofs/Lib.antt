@@ -5,7 +5,7 @@ pub mod Early
 pub mod Single
 pub mod Worked
 -- For the proofs of this crate.
-pub mod FillLaws
+pub mod MadeLaws
 pub mod FactorLaws
 pub mod InverseLaws
 pub mod CrossLaws

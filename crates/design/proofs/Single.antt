@@ -14,11 +14,12 @@ use Rattle.design.specs.Factor.{pivots_of, factor_of, rows_made}
 use Rattle.design.specs.Inverse.{inverse_from}
 use Rattle.design.specs.Difference.{difference_at}
 use Rattle.design.specs.Law.{law_from, law_answer}
-use Rattle.design.specs.declared.Pivots.{Pivots}
-use Rattle.design.specs.declared.LawAnswer.{LawAnswer}
+use Rattle.std.specs.Prelude.{Result}
+use Rattle.design.specs.declared.FailedPivot.{FailedPivot}
+use Rattle.design.specs.declared.LawError.{LawError}
 
 -- the pivot answer, and what the lent matrix holds at the end
-pub pivots-single : (x : List Float) (n k : ℕ) (r s : Pivots) → r ≡ pivots_of x n k → s ≡ pivots_of x n k → r ≡ s
+pub pivots-single : (x : List Float) (n k : ℕ) (r s : Result (Unit {0}) FailedPivot) → r ≡ pivots_of x n k → s ≡ pivots_of x n k → r ≡ s
 pivots-single x n k r s = both
 
 pub factor-single : (x : List Float) (n k : ℕ) (l m : Matrix) → l ≡ factor_of x n (rows_made k (pivots_of x n k)) → m ≡ factor_of x n (rows_made k (pivots_of x n k)) → l ≡ m
@@ -37,5 +38,5 @@ difference-single v a b = both
 pub law-single : (x : List Float) (n k : ℕ) (inverse : Matrix) (r s : NormalLaw) → r ≡ law_from x n k inverse → s ≡ law_from x n k inverse → r ≡ s
 law-single x n k inverse r s = both
 
-pub law-answer-single : (law : NormalLaw) (r s : LawAnswer) → r ≡ law_answer law → s ≡ law_answer law → r ≡ s
+pub law-answer-single : (law : NormalLaw) (r s : Result NormalLaw LawError) → r ≡ law_answer law → s ≡ law_answer law → r ≡ s
 law-answer-single law r s = both

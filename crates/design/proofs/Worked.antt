@@ -10,13 +10,12 @@ use Rattle.floats.specs.Turns.{turns}
 use Rattle.floats.specs.Tables.{table}
 use Rattle.roots.specs.Root.{sqrt_of}
 use Rattle.columns.specs.Sheet.{columns_of, too_few_rows}
-use Rattle.columns.specs.declared.Columns.TheVariants.{Sound}
+use Rattle.std.specs.Prelude.{Ok, Err}
 use Rattle.design.specs.Matrix.{row, matrix, every, finite_matrix}
 use Rattle.design.specs.Factor.{left_to, factor_of, fails_at, pivots_of}
 use Rattle.design.specs.Inverse.{lower_inverse, inverse_from, inverse_of}
 use Rattle.design.specs.Law.{law_from, law_of, law_answer}
-use Rattle.design.specs.declared.Pivots.TheVariants.{Hold}
-use Rattle.design.specs.declared.LawAnswer.TheVariants.{NotSpread}
+use Rattle.design.specs.declared.LawError.TheVariants.{NotSpread}
 
 -- ---- P11: five rows, the first four unit vectors for columns
 abbrev vectors : List Float
@@ -26,7 +25,7 @@ vectors =
     plus_zero ∷ plus_zero ∷ one ∷ plus_zero ∷ plus_zero ∷
     plus_zero ∷ plus_zero ∷ plus_zero ∷ one ∷ plus_zero ∷ []
 
-vectors-pass : (columns_of vectors 5 4 ≡ Sound (record { rows = 5; columns = 4 })) × (too_few_rows 5 4 ≡ false) × (pivots_of vectors 5 4 ≡ Hold) × (finite_matrix 4 (inverse_of vectors 5 4) ≡ true)
+vectors-pass : (columns_of vectors 5 4 ≡ Ok (record { rows = 5; columns = 4 })) × (too_few_rows 5 4 ≡ false) × (pivots_of vectors 5 4 ≡ Ok tt) × (finite_matrix 4 (inverse_of vectors 5 4) ≡ true)
 unfolding first_bad pivots_of fails_at factor_of left_to lower_inverse inverse_from matrix row table every turns first_where sum_of add sub mul div neg le lt eq is_nan sqrt_of of_bits
 vectors-pass = (refl, refl, refl, refl)
 
@@ -36,7 +35,7 @@ unfolding law_from factor_of left_to lower_inverse inverse_from matrix row table
 vectors-law = refl
 
 -- so it does not serve
-pub vectors-not-spread : law_answer (law_of vectors 5 4) ≡ NotSpread
+pub vectors-not-spread : law_answer (law_of vectors 5 4) ≡ Err NotSpread
 unfolding lt of_bits
 vectors-not-spread = rw vectors-law refl
 
@@ -44,7 +43,7 @@ vectors-not-spread = rw vectors-law refl
 abbrev faint : List Float
 faint = float 0x1fc0000000000000 ∷ float 0x1fc0000000000000 ∷ []
 
-faint-pass : (columns_of faint 2 1 ≡ Sound (record { rows = 2; columns = 1 })) × (too_few_rows 2 1 ≡ false) × (pivots_of faint 2 1 ≡ Hold)
+faint-pass : (columns_of faint 2 1 ≡ Ok (record { rows = 2; columns = 1 })) × (too_few_rows 2 1 ≡ false) × (pivots_of faint 2 1 ≡ Ok tt)
 unfolding first_bad pivots_of fails_at factor_of left_to turns first_where sum_of add sub mul neg le lt eq is_nan of_bits
 faint-pass = (refl, refl, refl)
 

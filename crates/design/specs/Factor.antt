@@ -1,7 +1,7 @@
 -- The Cholesky factor L of X'X, row by row, and its pivots.
 -- The columns of X are one run x of n rows each: row t of column j is x ‼ (j * n + t). Sums run first to last, from -0.
 -- Definitions only. Assumes nothing.
-use Rattle.std.specs.Prelude.{ℕ, ◌*◌, Bool, List, set, Float, Option, Some, None}
+use Rattle.std.specs.Prelude.{ℕ, ◌*◌, Bool, List, set, Float, Option, Some, None, Result, Ok, Err}
 use Rattle.std.specs.Float.Ieee.{le}
 use Rattle.floats.specs.Words.{◌⊖◌, ◌⊗◌, ◌⊘◌, ◌‼◌, float}
 use Rattle.floats.specs.Sums.{sum_of, sum_products}
@@ -10,8 +10,7 @@ use Rattle.floats.specs.Search.{first_where}
 use Rattle.floats.specs.Turns.{turns}
 use Rattle.roots.specs.Root.{sqrt_of}
 use Rattle.design.specs.Matrix.{Matrix, row_at, entry, zero_row, zero_matrix}
-use Rattle.design.specs.declared.Pivots.{Pivots}
-use Rattle.design.specs.declared.Pivots.TheVariants.{Hold, Fails}
+use Rattle.design.specs.declared.FailedPivot.{FailedPivot}
 
 -- entry (i, j) of X'X: the products of columns i and j, summed
 abbrev pub gram : List Float → ℕ → ℕ → ℕ → Float
@@ -57,15 +56,15 @@ unfoldable pub fails_at : List Float → ℕ → ℕ → Bool
 fails_at x n i = fails x n i (left_of x n (factor_of x n i) i)
 
 -- the answer for what a search for failing pivots found
-abbrev pub pivots_by : Option ℕ → Pivots
-pivots_by (Some i) = Fails i
-pivots_by None = Hold
+abbrev pub pivots_by : Option ℕ → Result (Unit {0}) FailedPivot
+pivots_by (Some i) = Err (record { 0 = i })
+pivots_by None = Ok tt
 
 -- whether all k pivots hold, or the first that fails
-unfoldable pub pivots_of : List Float → ℕ → ℕ → Pivots
+unfoldable pub pivots_of : List Float → ℕ → ℕ → Result (Unit {0}) FailedPivot
 pivots_of x n k = pivots_by (first_where k (fails_at x n))
 
 -- how many rows of the factor are made: all k, or those above the pivot that fails
-abbrev pub rows_made : ℕ → Pivots → ℕ
-rows_made k Hold = k
-rows_made k (Fails i) = i
+abbrev pub rows_made : ℕ → Result (Unit {0}) FailedPivot → ℕ
+rows_made k (Ok done) = k
+rows_made k (Err failed) = failed.0

@@ -1,7 +1,7 @@
 -- The normal law of the Durbin-Watson statistic, with the exact null mean and variance by traces (Durbin and Watson, 1971, as in R's dwtest).
 -- The columns of X are one run x of n rows each. Every operation is rounded, in this order; sums run first to last, from -0.
 -- Definitions only. Assumes nothing.
-use Rattle.std.specs.Prelude.{ℕ, ◌+◌, ◌*◌, Bool, ◌&&◌, cond, List, ltb, pos, Float}
+use Rattle.std.specs.Prelude.{ℕ, ◌+◌, ◌*◌, Bool, ◌&&◌, cond, List, ltb, pos, Float, Result, Ok, Err}
 use Rattle.std.specs.Float.{binary64}
 use Rattle.std.specs.Float.Ieee.{lt, of_int}
 use Rattle.std.specs.Float.Ieee.Scale.{finite}
@@ -11,8 +11,8 @@ use Rattle.elementary.specs.declared.NormalLaw.{NormalLaw}
 use Rattle.design.specs.Matrix.{Matrix, matrix, product_of, trace_of}
 use Rattle.design.specs.Inverse.{inverse_of}
 use Rattle.design.specs.Difference.{difference_at}
-use Rattle.design.specs.declared.LawAnswer.{LawAnswer}
-use Rattle.design.specs.declared.LawAnswer.TheVariants.{Usable, NotFinite, NotSpread}
+use Rattle.design.specs.declared.LawError.{LawError}
+use Rattle.design.specs.declared.LawError.TheVariants.{NotFinite, NotSpread}
 
 -- a count as a number, and 3 and 4
 abbrev pub count : ℕ → Float
@@ -64,9 +64,9 @@ abbrev pub law_of : List Float → ℕ → ℕ → NormalLaw
 law_of x n k = law_from x n k (inverse_of x n k)
 
 -- whether the law serves: its mean and variance are finite, and its variance is above 0
-abbrev pub law_answer : NormalLaw → LawAnswer
+abbrev pub law_answer : NormalLaw → Result NormalLaw LawError
 law_answer law =
-    cond (finite law.mean && finite law.variance) (cond (lt plus_zero law.variance) (Usable law) NotSpread) NotFinite
+    cond (finite law.mean && finite law.variance) (cond (lt plus_zero law.variance) (Ok law) (Err NotSpread)) (Err NotFinite)
 
 -- with fewer rows no law is worked out
 abbrev pub least_for_law : ℕ

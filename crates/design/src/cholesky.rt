@@ -6,6 +6,7 @@ ghost use Rattle.floats.specs.Words.{◌⊗◌, ◌‼◌};
 ghost use Rattle.design.specs.Factor.{left_of};
 
 use super::Matrix;
+use super::tables::sum_of;
 use super::traces::column_products;
 use floats::limits::MAX_COLUMNS;
 
@@ -14,11 +15,7 @@ pub fn products(a: &[f64; MAX_COLUMNS], b: &[f64; MAX_COLUMNS], j: usize) -> f64
     requires { j ≤ max_columns }
     ensures { result ≡ sum_of j (λ m. a.now ‼ m ⊗ b.now ‼ m) }
 {
-    let mut s = -0.0f64;
-    for m in 0..j {
-        s = s + a[m] * b[m];
-    }
-    s
+    sum_of(j, |m| a[m] * b[m])
 }
 
 // Row i of the factor left of the diagonal, from the rows above it.
@@ -27,6 +24,7 @@ pub fn left_of(columns: &[f64], n: usize, l: &Matrix, i: usize) -> [f64; MAX_COL
     ensures { result ≡ left_of columns.now n l.now i }
 {
     let mut row = [0.0f64; MAX_COLUMNS];
+    // kept as an index loop: number j reads the numbers of the row before it
     for j in 0..i {
         row[j] = (column_products(columns, columns, n, i, j) - products(&row, &l[j], j)) / l[j][j];
     }

@@ -47,6 +47,7 @@ pub fn difference_columns(columns: &[f64], size: SheetSize, differences: &mut [f
 {
     let n = size.rows;
     let k = size.columns;
+    // kept as an index loop: of what chunks_exact_mut lends out a proof knows no element
     for j in 0..k {
         difference_column(columns, j * n, n, differences);
     }

@@ -3,14 +3,13 @@ ghost use Rattle.std.specs.Prelude.{◌≡◌, ◌+◌, ◌*◌, ◌≤◌, ◌<
 ghost use Rattle.floats.specs.Limits.{max_rows, max_columns};
 ghost use Rattle.floats.specs.Sums.{sum_of, sum_products};
 ghost use Rattle.floats.specs.Words.{◌⊗◌};
-ghost use Rattle.columns.specs.Sheet.{Design};
-ghost use Rattle.design.specs.Matrix.{entry, row, matrix, product_of, trace_of};
-ghost use Rattle.design.specs.Law.{count, law_by, law_from};
+ghost use Rattle.design.specs.Matrix.{entry, matrix, product_of, trace_of};
+ghost use Rattle.design.specs.Law.{law_by, law_from};
 
 use super::Matrix;
-use columns::SheetSize;
+use super::tables::{matrix, sum_of};
+use columns::{Sheet, SheetSize};
 use elementary::NormalLaw;
-use floats::limits::MAX_COLUMNS;
 
 // The products of column i of u and column j of v, summed: entry (i, j) of U' V.
 pub fn column_products(u: &[f64], v: &[f64], n: usize, i: usize, j: usize) -> f64
@@ -20,31 +19,13 @@ pub fn column_products(u: &[f64], v: &[f64], n: usize, i: usize, j: usize) -> f6
     floats::sums::sum_products(u, i * n, v, j * n, n)
 }
 
-// Row i of U' V, each of columns of that size.
-fn cross_row(u: &[f64], v: &[f64], size: SheetSize, i: usize) -> [f64; MAX_COLUMNS]
-    requires { (i < size.columns) × (size.columns ≤ max_columns) × (size.columns * size.rows ≤ length u.now) × (size.columns * size.rows ≤ length v.now) }
-    ensures { result ≡ row size.columns (λ j. sum_products u.now (i * size.rows) v.now (j * size.rows) size.rows) }
-{
-    let n = size.rows;
-    let k = size.columns;
-    let mut row = [0.0f64; MAX_COLUMNS];
-    for j in 0..k {
-        row[j] = column_products(u, v, n, i, j);
-    }
-    row
-}
-
-// U' V
+// U' V, each of columns of that size.
 pub fn cross(u: &[f64], v: &[f64], size: SheetSize) -> Matrix
     requires { (size.columns ≤ max_columns) × (size.columns * size.rows ≤ length u.now) × (size.columns * size.rows ≤ length v.now) }
     ensures { result ≡ matrix size.columns (λ i j. sum_products u.now (i * size.rows) v.now (j * size.rows) size.rows) }
 {
-    let k = size.columns;
-    let mut c = [[0.0f64; MAX_COLUMNS]; MAX_COLUMNS];
-    for i in 0..k {
-        c[i] = cross_row(u, v, size, i);
-    }
-    c
+    let n = size.rows;
+    matrix(size.columns, |i, j| column_products(u, v, n, i, j))
 }
 
 // Entry (i, j) of a b.
@@ -52,23 +33,7 @@ fn product_entry(a: &Matrix, b: &Matrix, k: usize, i: usize, j: usize) -> f64
     requires { (i < k) × (j < k) × (k ≤ max_columns) }
     ensures { result ≡ sum_of k (λ m. entry a.now i m ⊗ entry b.now m j) }
 {
-    let mut s = -0.0f64;
-    for m in 0..k {
-        s = s + a[i][m] * b[m][j];
-    }
-    s
-}
-
-// Row i of a b.
-fn product_row(a: &Matrix, b: &Matrix, k: usize, i: usize) -> [f64; MAX_COLUMNS]
-    requires { (i < k) × (k ≤ max_columns) }
-    ensures { result ≡ row k (λ j. sum_of k (λ m. entry a.now i m ⊗ entry b.now m j)) }
-{
-    let mut row = [0.0f64; MAX_COLUMNS];
-    for j in 0..k {
-        row[j] = product_entry(a, b, k, i, j);
-    }
-    row
+    sum_of(k, |m| a[i][m] * b[m][j])
 }
 
 // a b
@@ -76,11 +41,7 @@ pub fn product(a: &Matrix, b: &Matrix, k: usize) -> Matrix
     requires { k ≤ max_columns }
     ensures { result ≡ product_of k a.now b.now }
 {
-    let mut c = [[0.0f64; MAX_COLUMNS]; MAX_COLUMNS];
-    for i in 0..k {
-        c[i] = product_row(a, b, k, i);
-    }
-    c
+    matrix(k, |i, j| product_entry(a, b, k, i, j))
 }
 
 // The trace of a.
@@ -88,11 +49,7 @@ pub fn trace(a: &Matrix, k: usize) -> f64
     requires { k ≤ max_columns }
     ensures { result ≡ trace_of k a.now }
 {
-    let mut s = -0.0f64;
-    for i in 0..k {
-        s = s + a[i][i];
-    }
-    s
+    sum_of(k, |i| a[i][i])
 }
 
 // The trace of a b; only the diagonal is worked out.
@@ -100,18 +57,7 @@ pub fn trace_of_product(a: &Matrix, b: &Matrix, k: usize) -> f64
     requires { k ≤ max_columns }
     ensures { result ≡ trace_of k (product_of k a.now b.now) }
 {
-    let mut s = -0.0f64;
-    for i in 0..k {
-        s = s + product_entry(a, b, k, i, i);
-    }
-    s
-}
-
-fn count(n: usize) -> f64
-    requires { n ≤ max_rows }
-    ensures { result ≡ count n }
-{
-    n as f64
+    sum_of(k, |i| product_entry(a, b, k, i, i))
 }
 
 // The law from the traces of B, C and B².
@@ -119,8 +65,8 @@ fn law_by(b: f64, c: f64, bb: f64, size: SheetSize) -> NormalLaw
     requires { (size.rows ≤ max_rows) × (size.columns ≤ max_columns) }
     ensures { result ≡ law_by b c bb size.rows size.columns }
 {
-    let rows = count(size.rows);
-    let free = rows - count(size.columns);
+    let rows = size.rows as f64;
+    let free = rows - size.columns as f64;
     let p = 2.0 * (rows - 1.0) - b;
     let q = 2.0 * (3.0 * rows - 4.0) - 2.0 * c + bb;
     let mean = p / free;
@@ -130,15 +76,17 @@ fn law_by(b: f64, c: f64, bb: f64, size: SheetSize) -> NormalLaw
     }
 }
 
-// The law of the columns, with room for A X.
-pub fn law_in(columns: &[f64], size: SheetSize, inverse: &Matrix, room: &mut [f64]) -> NormalLaw
-    requires { (Design size columns.now) × (size.columns * size.rows ≤ length room.old) }
-    ensures { result ≡ law_from columns.now size.rows size.columns inverse.now }
+// The law of the columns; A X stands in room for ROOM numbers on the stack.
+pub fn law_with<const ROOM: usize>(sheet: Sheet, inverse: &Matrix) -> NormalLaw
+    requires { (length sheet.run.now ≤ ROOM) × (ROOM ≤ max_columns * max_rows) }
+    ensures { result ≡ law_from sheet.entry.run.now sheet.entry.size.rows sheet.entry.size.columns inverse.now }
 {
+    let size = sheet.size;
     let k = size.columns;
-    super::difference::difference_columns(columns, size, room);
-    let b = product(&cross(columns, room, size), inverse, k);
-    let c = cross(room, room, size);
+    let mut room = [0.0f64; ROOM];
+    super::difference::difference_columns(sheet.run, size, &mut room);
+    let b = product(&cross(sheet.run, &room, size), inverse, k);
+    let c = cross(&room, &room, size);
     law_by(
         trace(&b, k),
         trace_of_product(&c, inverse, k),

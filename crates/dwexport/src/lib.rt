@@ -1,26 +1,45 @@
 // The test for callers in C or Rust: numbers and runs only. link/dwexport.h says the same for C.
 #![tactic(auto)]
 
-ghost use Rattle.std.specs.Prelude.{◌≡◌, ◌+◌, length, drop};
-ghost use Rattle.dwexport.specs.Call.{status_of, result_of, matrix_after, parts_after};
+ghost use Rattle.std.specs.Prelude.{◌≡◌, ◌+◌, length, drop, IfOk};
+ghost use Rattle.outcome.specs.Codes.{alternative_of, choice_of};
+ghost use Rattle.dwexport.specs.Call.{error_number, status_in, status_of, result_of, matrix_after, parts_after};
 
 use lines::{WORDS, fields_of};
-use outcome::{alternative_of, choice_of};
+use outcome::{Alternative, Choice};
 
-// Why a call is not answered, or 0.
-fn status(words: usize, alternative: u32, choice: u32) -> u32
-    ensures { result ≡ status_of words alternative choice }
+// Why a call is not answered: a result of another length, no such alternative, no such choice.
+#[derive(Clone, Copy, Debug, PartialEq, Eq)]
+enum CallError {
+    Words,
+    Alternative,
+    Choice,
+}
+
+// What the call returns then.
+impl From<CallError> for u32 {
+    ghost from_gives = { λ why number. number ≡ error_number why };
+
+    fn from(why: CallError) -> u32 {
+        match why {
+            CallError::Words => 1,
+            CallError::Alternative => 2,
+            CallError::Choice => 3,
+        }
+    }
+}
+
+// The alternative and the choice of a call whose result has `words` words.
+fn asked(words: usize, alternative: u32, choice: u32) -> Result<(Alternative, Choice), CallError>
+    ensures status { status_in result ≡ status_of words alternative choice }
+    ensures codes { IfOk result (λ asked. (asked.0 ≡ alternative_of alternative) × (asked.1 ≡ choice_of choice)) }
 {
     if words != WORDS {
-        return 1;
+        return Err(CallError::Words);
     }
-    if alternative > 2 {
-        return 2;
-    }
-    if choice > 2 {
-        return 3;
-    }
-    0
+    let alternative = Alternative::try_from(alternative).map_err(|_| CallError::Alternative)?;
+    let choice = Choice::try_from(choice).map_err(|_| CallError::Choice)?;
+    Ok((alternative, choice))
 }
 
 // Puts the words behind the first into a run of just as many.
@@ -28,9 +47,7 @@ fn put_words(words: &[u64], answer: &mut [u64])
     requires { length words.now ≡ length answer.old + 1 }
     ensures { answer.new ≡ drop 1 words.now }
 {
-    for t in 0..answer.len() {
-        answer[t] = words[t + 1];
-    }
+    answer.copy_from_slice(&words[1..]);
 }
 
 // The Durbin-Watson test of the residuals and of the k columns, which stand one after another in `columns`. Codes: alternative 0 greater, 1 less, 2
@@ -52,20 +69,20 @@ pub extern "C" fn dwexport_test(
     ensures matrix_after { matrix.new ≡ matrix_after residuals.now columns.now k alternative choice matrix.old parts.old answer.old }
     ensures parts_after { parts.new ≡ parts_after residuals.now columns.now k alternative choice matrix.old parts.old answer.old }
 {
-    let refused = status(answer.len(), alternative, choice);
-    if refused != 0 {
-        return refused;
+    match asked(answer.len(), alternative, choice) {
+        Ok((alternative, choice)) => {
+            let outcome = dwtest::durbin_watson_test(
+                residuals,
+                columns,
+                k,
+                alternative,
+                choice,
+                matrix,
+                parts,
+            );
+            put_words(&fields_of(0, outcome), answer);
+            0
+        }
+        Err(why) => why.into(),
     }
-    let outcome = dwtest::durbin_watson_test(
-        residuals,
-        columns,
-        k,
-        alternative_of(alternative as u64),
-        choice_of(choice as u64),
-        matrix,
-        parts,
-    );
-    let words = fields_of(0, outcome);
-    put_words(&words, answer);
-    0
 }

@@ -1,4 +1,4 @@
--- A room, number by number set to one value: what one store more makes of it; and a room that was worked in and then cleared. Assumes nothing.
+-- A room that is not used, and one that was worked in and then cleared. Assumes nothing.
 use mathlib.Core.Path.{◌≡◌, refl, ap, ◌∙◌}
 use mathlib.Core.Bool.{Bool, true, false}
 use Prim.Native.Nat.{ℕ, zero, suc, ◌+◌, ◌<◌}
@@ -9,14 +9,6 @@ use lib.Seq.{drop-cons, set_at}
 use lib.Ieee.{Float, nan}
 use Rattle.floats.specs.Words.{plus_zero}
 use Rattle.outcome.specs.Rooms.{cleared_of}
-
-replicate_more : (z : Float) (n : ℕ) (r : List Float) → replicate n z ++ (z ∷ r) ≡ replicate (suc n) z ++ r
-replicate_more z zero r = refl
-replicate_more z (suc n) r = ap (λ (l : List Float). z ∷ l) (replicate_more z n r)
-
-pub clear_next : (z : Float) (l : List Float) (t : ℕ) → t < length l → set (replicate t z ++ drop t l) t z ≡ replicate (t + 1) z ++ drop (t + 1) l
-clear_next z l t h =
-    rw (drop-cons l t nan h, add-one t) (set_at (replicate t z) (get_or l t nan) (drop (suc t) l) z t (length-replicate t z) ∙ replicate_more z t (drop (suc t) l))
 
 -- a room that is not used stays
 pub untouched : (b : Bool) (m : ℕ) (room : List Float) → b ≡ false → room ≡ cleared_of b m room

@@ -1,6 +1,6 @@
 -- The test, case by case: which check refuses, or which path answers, and whether the rooms are used. Each case is one law that names its conditions.
 -- `wanted` is how many numbers of matrix room n rows want. Assumes nothing.
-use mathlib.Core.Path.{◌≡◌, refl, sym, ap}
+use mathlib.Core.Path.{◌≡◌, refl, sym, ap, ◌∙◌}
 use mathlib.Core.Bool.{Bool, true, false, cond, true≢false}
 use Prim.Native.Nat.{ℕ}
 use mathlib.Core.List.{List}
@@ -9,40 +9,63 @@ use lib.ListN.{length}
 use lib.Ieee.{Float}
 use Rattle.floats.specs.Words.{one}
 use Rattle.autocorrelation.specs.Statistic.{durbin_watson_answer, value}
-use Rattle.autocorrelation.specs.declared.Statistic.{Statistic}
+use Rattle.std.specs.Prelude.{Result, Ok, Err}
+use Rattle.std.specs.Result.{IsErrAnd}
+use Rattle.std.proofs.lemmas.Result.{err_from_is_err_and}
+use Rattle.autocorrelation.specs.declared.StatisticError.{StatisticError}
 use Rattle.columns.specs.Sheet.{columns_of}
-use Rattle.columns.specs.declared.Columns.{Columns}
+use Rattle.columns.specs.declared.SheetSize.{SheetSize}
+use Rattle.columns.specs.declared.ColumnsError.{ColumnsError}
 use Rattle.design.specs.Matrix.{Matrix}
 use Rattle.design.specs.Factor.{pivots_of}
 use Rattle.design.specs.Inverse.{inverse_of}
-use Rattle.design.specs.declared.Pivots.{Pivots}
-use Rattle.design.specs.declared.Pivots.TheVariants.{Hold}
-use Rattle.outcome.specs.Refusals.{passes, first_of, columns_refusal, statistic_refusal, rows_refusal, pivots_refusal, inverse_refusal, room_refusal}
-use Rattle.outcome.specs.Result.{least_rows, few_rows, wants_exact, no_law, direct, refused_of, accepted_of}
+use Rattle.design.specs.declared.FailedPivot.{FailedPivot}
+use Rattle.design.specs.declared.LawError.{LawError}
+use Rattle.elementary.specs.declared.NormalLaw.{NormalLaw}
+use Rattle.outcome.specs.Refusals.{passed, passes, first_of, refusal_of, refusal_in, columns_refusal, statistic_refusal, rows_refusal, pivots_refusal, inverse_refusal, rooms_of, room_refusal}
+use Rattle.outcome.specs.Result.{least_rows, wants_exact, no_law, direct, refused_of, outcome_in, accepted_of}
 use Rattle.outcome.specs.declared.Alternative.{Alternative}
 use Rattle.outcome.specs.declared.Asked.{Asked}
 use Rattle.outcome.specs.declared.Choice.{Choice}
 use Rattle.outcome.specs.declared.Outcome.{Outcome}
-use Rattle.outcome.proofs.PassLaws.{inverse-alone}
-use Rattle.dwtest.specs.Layout.{design_checks, layout_from, layout_of}
-use Rattle.dwtest.specs.Verdict.{normal_path, exact_path}
-use Rattle.dwtest.specs.declared.Way.TheVariants.{Few, NoRoom, Exact, Normal}
-use Rattle.dwtest.specs.Test.{asking, is_exact, way_of, answer_of, design_of, design_touches, test_with, touched_with}
+use Rattle.outcome.specs.declared.Path.TheVariants as path
+use Rattle.outcome.specs.declared.refusals.TestError.{TestError}
+use Rattle.outcome.proofs.PassLaws.{reason-refuses, inverse-alone}
+use Rattle.dwtest.specs.Layout.{design_checks, Layout, layout_from, layout_of}
+use Rattle.dwtest.specs.Verdict.{by_spectrum, finish, normal_path, exact_path}
+use Rattle.dwtest.specs.declared.Way.TheVariants.{Few, Exact, Normal}
+use Rattle.dwtest.specs.declared.verdict.Said.{Said}
+use Rattle.dwtest.specs.Test.{asking, is_exact, exact_by, said_by, way_of, answer_of, design_of, design_touches, test_with, touched_with}
+
+-- what is told of a test that ends with a reason
+pub outcome-at : (r : Result Outcome TestError) (why : TestError) → IsErrAnd r (λ found. found ≡ why) → outcome_in r ≡ refused_of (refusal_of why)
+outcome-at r why h = let p = err_from_is_err_and r h in rw (p.1, p.2) refl
 
 -- past the pivots the columns' refusal is the inverse's
-pub past-pivots : (x : List Float) (n k : ℕ) → pivots_of x n k ≡ Hold → first_of (design_checks x n k) ≡ inverse_refusal k (inverse_of x n k)
+pub past-pivots : (x : List Float) (n k : ℕ) → pivots_of x n k ≡ Ok tt → first_of (design_checks x n k) ≡ inverse_refusal k (inverse_of x n k)
 unfolding first_of
 past-pivots x n k h = rw h (inverse-alone k (inverse_of x n k))
 
 -- the exact way has room
-pub exact-has-room : (wanted : ℕ → ℕ) (n : ℕ) (choice : Choice) (matrix parts : ℕ) → way_of wanted n choice matrix parts ≡ Exact → passes (room_refusal (wanted n) matrix parts) ≡ true
-exact-has-room wanted n choice matrix parts h = go (ltb n least_rows) (wants_exact choice n) (passes (room_refusal (wanted n) matrix parts)) h
+pub exact-has-room : (wanted : ℕ → ℕ) (n : ℕ) (choice : Choice) (matrix parts : ℕ) → way_of wanted n choice matrix parts ≡ Ok Exact → passes (room_refusal (wanted n) matrix parts) ≡ true
+exact-has-room wanted n choice matrix parts h = go (ltb n least_rows) (wants_exact choice n) (rooms_of (wanted n) matrix parts) h
   where
-    go : (f w r : Bool) → cond f Few (cond w (cond r Exact (NoRoom (room_refusal (wanted n) matrix parts))) Normal) ≡ Exact → r ≡ true
+    go : (f w : Bool) (r : Result (Unit {0}) TestError) → cond f (Ok Few) (cond w (exact_by r) (Ok Normal)) ≡ Ok Exact → passes (refusal_in r) ≡ true
     go true w r e = absurd (true≢false (sym (ap is_exact e)))
     go false false r e = absurd (true≢false (sym (ap is_exact e)))
-    go false true false e = absurd (true≢false (sym (ap is_exact e)))
-    go false true true e = refl
+    go false true (Err why) e = absurd (true≢false (sym (ap is_exact e)))
+    go false true (Ok suffice) e = refl
+
+-- what is said of rooms that do not suffice, and of rooms that do
+rooms-lack : (law : Result NormalLaw LawError) (l : Layout) (asked : Asked) (r : Result (Unit {0}) TestError) → passes (refusal_in r) ≡ false
+    → (finish law asked (said_by (exact_by r) l asked) ≡ refused_of (refusal_in r)) × (is_exact (exact_by r) ≡ false)
+rooms-lack law l asked (Ok suffice) h = absurd (true≢false h)
+rooms-lack law l asked (Err why) h = (refl, refl)
+
+rooms-suffice : (law : Result NormalLaw LawError) (l : Layout) (asked : Asked) (r : Result (Unit {0}) TestError) → passes (refusal_in r) ≡ true
+    → (finish law asked (said_by (exact_by r) l asked) ≡ finish law asked (by_spectrum l.spectrum l.kept asked)) × (is_exact (exact_by r) ≡ true)
+rooms-suffice law l asked (Ok suffice) h = (refl, refl)
+rooms-suffice law l asked (Err why) h = absurd (true≢false (sym h ∙ reason-refuses why))
 
 module _ (wanted : ℕ → ℕ) (x : List Float) (n k : ℕ) (asked : Asked) (choice : Choice) (matrix parts : ℕ) where
   -- what the columns and the statistic decide, and whether that uses the rooms
@@ -58,12 +81,19 @@ module _ (wanted : ℕ → ℕ) (x : List Float) (n k : ℕ) (asked : Asked) (ch
   unfolding design_of
   design-passes q = rw q (refl, refl)
 
+  -- where an inverse is the columns' and nothing is refused, what is said of it decides
+  pub design-said : (i : Matrix) (said : Said) → passed ≡ first_of (design_checks x n k) → i ≡ inverse_of x n k → said ≡ said_by (way_of wanted n choice matrix parts) (layout_from x n k i) asked
+      → Decided (finish (layout_of x n k).law asked said) (is_exact (way_of wanted n choice matrix parts))
+  design-said i said pass inv told =
+      let s = design-passes (ap passes (sym pass)) in
+      (s.0 ∙ sym (ap (finish (layout_of x n k).law asked) (told ∙ ap (λ i. said_by (way_of wanted n choice matrix parts) (layout_from x n k i) asked) inv)), s.1)
+
   -- 11
-  pub pivot-fails : (p : Pivots) → pivots_of x n k ≡ p → passes (pivots_refusal p) ≡ false → Decided (refused_of (pivots_refusal p)) false
+  pub pivot-fails : (p : Result (Unit {0}) FailedPivot) → pivots_of x n k ≡ p → passes (pivots_refusal p) ≡ false → Decided (refused_of (pivots_refusal p)) false
   unfolding design_of first_of
   pivot-fails p h q = rw (h, q, q) (refl, refl)
 
-  module _ (i : Matrix) (hold : pivots_of x n k ≡ Hold) (inv : inverse_of x n k ≡ i) where
+  module _ (i : Matrix) (hold : pivots_of x n k ≡ Ok tt) (inv : inverse_of x n k ≡ i) where
     -- 13, stage 1
     pub inverse-refused : passes (inverse_refusal k i) ≡ false → Decided (refused_of (inverse_refusal k i)) false
     unfolding design_of first_of
@@ -71,7 +101,7 @@ module _ (wanted : ℕ → ℕ) (x : List Float) (n k : ℕ) (asked : Asked) (ch
 
     module _ (q : passes (inverse_refusal k i) ≡ true) where
       -- path 1
-      pub too_few : ltb n least_rows ≡ true → Decided (accepted_of asked one few_rows direct no_law) false
+      pub too_few : ltb n least_rows ≡ true → Decided (accepted_of asked one path.FewRows direct no_law) false
       unfolding design_of first_of
       too_few r = rw (hold, inv, q, r) (refl, refl)
 
@@ -84,13 +114,13 @@ module _ (wanted : ℕ → ℕ) (x : List Float) (n k : ℕ) (asked : Asked) (ch
       pub no_room : ltb n least_rows ≡ false → wants_exact choice n ≡ true → passes (room_refusal (wanted n) matrix parts) ≡ false
           → Decided (refused_of (room_refusal (wanted n) matrix parts)) false
       unfolding design_of first_of
-      no_room r w m = rw (hold, inv, q, r, w, m) (refl, refl)
+      no_room r w m = rw (hold, inv, q, r, w) (rooms-lack (layout_from x n k i).law (layout_from x n k i) asked (rooms_of (wanted n) matrix parts) m)
 
       -- path 2
       pub by-exact : ltb n least_rows ≡ false → wants_exact choice n ≡ true → passes (room_refusal (wanted n) matrix parts) ≡ true
           → Decided (exact_path (layout_from x n k i) asked) true
       unfolding design_of exact_path first_of
-      by-exact r w m = rw (hold, inv, q, r, w, m) (refl, refl)
+      by-exact r w m = rw (hold, inv, q, r, w) (rooms-suffice (layout_from x n k i).law (layout_from x n k i) asked (rooms_of (wanted n) matrix parts) m)
 
 module _ (wanted : ℕ → ℕ) (e x : List Float) (k : ℕ) (alternative : Alternative) (choice : Choice) (matrix parts : ℕ) where
   -- what the test answers, and whether it uses the rooms
@@ -98,11 +128,11 @@ module _ (wanted : ℕ → ℕ) (e x : List Float) (k : ℕ) (alternative : Alte
   Tested o used = (test_with wanted e x k alternative choice matrix parts ≡ o) × (touched_with wanted e x k choice matrix parts ≡ used)
 
   -- 1 to 4
-  pub columns-refused : (c : Columns) → columns_of x (length e) k ≡ c → passes (columns_refusal c) ≡ false → Tested (refused_of (columns_refusal c)) false
+  pub columns-refused : (c : Result SheetSize ColumnsError) → columns_of x (length e) k ≡ c → passes (columns_refusal c) ≡ false → Tested (refused_of (columns_refusal c)) false
   unfolding test_with touched_with first_of
   columns-refused c h q = rw (h, q, q) (refl, refl)
 
-  module _ (c : Columns) (h : columns_of x (length e) k ≡ c) (q : passes (columns_refusal c) ≡ true) (s : Statistic) (g : durbin_watson_answer e ≡ s) where
+  module _ (c : Result SheetSize ColumnsError) (h : columns_of x (length e) k ≡ c) (q : passes (columns_refusal c) ≡ true) (s : Result Float StatisticError) (g : durbin_watson_answer e ≡ s) where
     -- 5 to 9
     pub statistic-refused : passes (statistic_refusal s) ≡ false → Tested (refused_of (statistic_refusal s)) false
     unfolding test_with touched_with first_of

@@ -8,76 +8,71 @@ use lib.Ieee.{Float}
 use Rattle.floats.specs.Words.{plus_zero, one}
 use Rattle.autocorrelation.specs.Statistic.{value}
 use Rattle.autocorrelation.specs.Bound.{Sure, Told}
-use Rattle.autocorrelation.specs.declared.Statistic.{Statistic}
-use Rattle.autocorrelation.specs.declared.Statistic.TheVariants as statistic
+use Rattle.std.specs.Prelude.{Result, Ok, Err}
+use Rattle.autocorrelation.specs.declared.StatisticError.{StatisticError}
 use Rattle.design.specs.Law.{too_few_for_law}
-use Rattle.design.specs.declared.LawAnswer.{LawAnswer}
-use Rattle.design.specs.declared.LawAnswer.TheVariants as law
+use Rattle.design.specs.declared.LawError.{LawError}
+use Rattle.elementary.specs.declared.NormalLaw.{NormalLaw}
 use Rattle.eigen.specs.declared.Numbers.{Numbers}
-use Rattle.eigen.specs.declared.Spectrum.{Spectrum}
-use Rattle.eigen.specs.declared.Spectrum.TheVariants.{MatrixNotFinite, NumberNotFinite, Kept}
+use Rattle.eigen.specs.declared.SpectrumError.{SpectrumError}
 use Rattle.imhof.specs.Imhof.{imhof_of}
-use Rattle.imhof.specs.declared.Exact.{Exact}
-use Rattle.imhof.specs.declared.Exact.TheVariants.{NoWeight, NotFinite, Value}
-use Rattle.outcome.specs.Refusals.{passes, first_of, statistic_refusal, room_refusal}
-use Rattle.outcome.specs.Result.{least_rows, few_for_law, wants_exact, no_law, fallen_back, refused_of, accepted_of}
+use Rattle.imhof.specs.declared.Estimate.{Estimate}
+use Rattle.imhof.specs.declared.ExactError.{ExactError}
+use Rattle.imhof.specs.declared.ExactError.TheVariants.{NoWeight, NotFinite}
+use Rattle.outcome.specs.Refusals.{passes, first_of, refusal_of, statistic_refusal, spectrum_error, law_error, rooms_of}
+use Rattle.outcome.specs.Result.{least_rows, wants_exact, no_law, fallen_back, refused_of, accepted_of}
 use Rattle.outcome.specs.declared.Asked.{Asked}
 use Rattle.outcome.specs.declared.Choice.{Choice}
 use Rattle.outcome.specs.declared.Leaving.{Leaving}
+use Rattle.outcome.specs.declared.Path.TheVariants as path
 use Rattle.outcome.specs.declared.Refusal.{Refusal}
+use Rattle.outcome.specs.declared.refusals.TestError.{TestError}
+use Rattle.outcome.specs.declared.refusals.TestError.TheVariants as error
+use Rattle.outcome.proofs.PassLaws.{reason-refuses}
 use Rattle.dwtest.specs.Layout.{Layout, design_checks, layout_of}
 use Rattle.dwtest.specs.Verdict.{to_law, by_imhof, by_spectrum, by_law, finish}
-use Rattle.dwtest.specs.Test.{said_by, answer_of, design_of}
+use Rattle.dwtest.specs.Test.{said_by, exact_by, answer_of, design_of}
 use Rattle.dwtest.specs.Vouched.{SureIf, Vouched}
 use Rattle.dwtest.specs.declared.Way.TheVariants as way
 use Rattle.dwtest.specs.declared.verdict.Said.TheVariants.{Answered, LawDue}
-
--- an answer that passes is a statistic, of which all is sure
-pub told-sure : (s : Statistic) (e : List Float) → passes (statistic_refusal s) ≡ true → Told s e → Sure (value s) e
-told-sure (statistic.Value d) e q h = h
-told-sure statistic.Empty e q h = absurd (true≢false (sym q))
-told-sure statistic.Single e q h = absurd (true≢false (sym q))
-told-sure (statistic.NotFinite t) e q h = absurd (true≢false (sym q))
-told-sure statistic.ZeroSum e q h = absurd (true≢false (sym q))
-told-sure statistic.Overflow e q h = absurd (true≢false (sym q))
 
 module _ (e : List Float) where
   pub refused-vouched : (r : Refusal) → passes r ≡ false → Vouched (refused_of r) e
   refused-vouched r h = subst (λ (b : Bool). SureIf b plus_zero e) (sym h) tt
 
-  module _ (asked : Asked) (sure : Sure asked.statistic e) (found : LawAnswer) where
-    by-law : (l : LawAnswer) (left : Leaving) → Vouched (by_law l asked left) e
-    by-law (law.Usable l) left = sure
-    by-law law.NotFinite left = tt
-    by-law law.NotSpread left = tt
+  pub reason-vouched : (why : TestError) → Vouched (refused_of (refusal_of why)) e
+  reason-vouched why = refused-vouched (refusal_of why) (reason-refuses why)
+
+  module _ (asked : Asked) (sure : Sure asked.statistic e) (found : Result NormalLaw LawError) where
+    by-law : (l : Result NormalLaw LawError) (left : Leaving) → Vouched (by_law l asked left) e
+    by-law (Ok l) left = sure
+    by-law (Err why) left = reason-vouched (law_error why)
 
     to-law : (left : Leaving) → Vouched (finish found asked (to_law asked left)) e
     to-law left = go (too_few_for_law asked.rows)
       where
-        go : (b : Bool) → Vouched (finish found asked (cond b (Answered (accepted_of asked one few_for_law left no_law)) (LawDue left))) e
+        go : (b : Bool) → Vouched (finish found asked (cond b (Answered (accepted_of asked one path.FewForLaw left no_law)) (LawDue left))) e
         go true = sure
         go false = by-law found left
 
-    by-imhof : (q : Exact) (s : Numbers) → Vouched (finish found asked (by_imhof q s asked)) e
-    by-imhof NoWeight s = to-law (fallen_back s)
-    by-imhof NotFinite s = tt
-    by-imhof (Value q) s = sure
+    by-imhof : (q : Result Estimate ExactError) (s : Numbers) → Vouched (finish found asked (by_imhof q s asked)) e
+    by-imhof (Ok q) s = sure
+    by-imhof (Err NoWeight) s = to-law (fallen_back s)
+    by-imhof (Err NotFinite) s = tt
 
-    by-spectrum : (s : Spectrum) (kept : List Float) → Vouched (finish found asked (by_spectrum s kept asked)) e
-    by-spectrum MatrixNotFinite kept = tt
-    by-spectrum NumberNotFinite kept = tt
-    by-spectrum (Kept s) kept = by-imhof (imhof_of kept asked.statistic).answer s
+    by-spectrum : (s : Result Numbers SpectrumError) (kept : List Float) → Vouched (finish found asked (by_spectrum s kept asked)) e
+    by-spectrum (Err why) kept = reason-vouched (spectrum_error why)
+    by-spectrum (Ok s) kept = by-imhof (imhof_of kept asked.statistic).answer s
 
   module _ (wanted : ℕ → ℕ) (x : List Float) (n k : ℕ) (asked : Asked) (choice : Choice) (matrix parts : ℕ) (sure : Sure asked.statistic e) where
     answer-vouched : (l : Layout) → Vouched (answer_of wanted n l asked choice matrix parts) e
-    answer-vouched l = go (ltb n least_rows) (wants_exact choice n) (passes (room_refusal (wanted n) matrix parts)) refl
+    answer-vouched l = go (ltb n least_rows) (wants_exact choice n) (rooms_of (wanted n) matrix parts)
       where
-        go : (f w r : Bool) → passes (room_refusal (wanted n) matrix parts) ≡ r
-            → Vouched (finish l.law asked (said_by (cond f way.Few (cond w (cond r way.Exact (way.NoRoom (room_refusal (wanted n) matrix parts))) way.Normal)) l asked)) e
-        go true w r h = sure
-        go false true true h = by-spectrum asked sure l.law l.spectrum l.kept
-        go false true false h = refused-vouched (room_refusal (wanted n) matrix parts) h
-        go false false r h = to-law asked sure l.law _
+        go : (f w : Bool) (r : Result (Unit {0}) TestError) → Vouched (finish l.law asked (said_by (cond f (Ok way.Few) (cond w (exact_by r) (Ok way.Normal))) l asked)) e
+        go true w r = sure
+        go false true (Ok suffice) = by-spectrum asked sure l.law l.spectrum l.kept
+        go false true (Err why) = reason-vouched why
+        go false false r = to-law asked sure l.law _
 
     -- what the columns and the statistic decide
     pub design-vouched : Vouched (design_of wanted x n k asked choice matrix parts) e

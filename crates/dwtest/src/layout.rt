@@ -1,34 +1,28 @@
 // What the columns decide beside the eigenvalues: the inverse and the law.
-ghost use Rattle.std.specs.Prelude.{◌≡◌};
-ghost use Rattle.columns.specs.Sheet.{Design};
+ghost use Rattle.std.specs.Prelude.{◌≡◌, IfOk};
 ghost use Rattle.design.specs.Inverse.{inverse_of};
-ghost use Rattle.outcome.specs.Refusals.{first_of};
+ghost use Rattle.outcome.specs.Refusals.{first_of, refusal_in};
 ghost use Rattle.dwtest.specs.Layout.{design_checks, layout_from};
 
-use columns::SheetSize;
-use design::{LawAnswer, Matrix};
+use columns::Sheet;
+use design::{LawError, Matrix};
+use elementary::NormalLaw;
 use floats::limits::MAX_COLUMNS;
-use outcome::{Refusal, refusals};
+use outcome::refusals::{TestError, check_inverse};
 
 // (X'X)^-1, where nothing is refused.
-pub fn invert(columns: &[f64], size: SheetSize, inverse: &mut Matrix) -> Refusal
-    requires { Design size columns.now }
-    ensures value { result ≡ first_of (design_checks columns.now size.rows size.columns) }
-    ensures inverse_after { result.number ≡ 0 → inverse.new ≡ inverse_of columns.now size.rows size.columns }
+pub fn invert(sheet: Sheet) -> Result<Matrix, TestError>
+    ensures refusal { refusal_in result ≡ first_of (design_checks sheet.entry.run.now sheet.entry.size.rows sheet.entry.size.columns) }
+    ensures inverse { IfOk result (λ found. found ≡ inverse_of sheet.entry.run.now sheet.entry.size.rows sheet.entry.size.columns) }
 {
     let mut l = [[0.0f64; MAX_COLUMNS]; MAX_COLUMNS];
-    let pivots = refusals::of_pivots(design::factor(columns, size, &mut l));
-    if pivots.number != 0 {
-        return pivots;
-    }
-    *inverse = design::inverse_of_factor(l, size.columns);
-    refusals::of_inverse(*inverse, size.columns)
+    design::factor(sheet, &mut l)?;
+    check_inverse(design::inverse_of_factor(l, sheet.size.columns), sheet.size.columns)
 }
 
 // The normal law, or why it does not serve.
-pub fn law_of(columns: &[f64], size: SheetSize, inverse: Matrix) -> LawAnswer
-    requires { Design size columns.now }
-    ensures { result ≡ (layout_from columns.now size.rows size.columns inverse).law }
+pub fn law_of(sheet: Sheet, inverse: Matrix) -> Result<NormalLaw, LawError>
+    ensures { result ≡ (layout_from sheet.entry.run.now sheet.entry.size.rows sheet.entry.size.columns inverse).law }
 {
-    design::check_law(design::normal_law(columns, size, inverse))
+    design::check_law(design::normal_law(sheet, inverse))
 }

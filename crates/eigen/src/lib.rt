@@ -16,6 +16,7 @@ use columns::SheetSize;
 use design::Matrix;
 use floats::limits::MAX_ROWS;
 use floats::tally::Tally;
+use ql::Swept;
 
 // How many eigenvalues are kept, the sweeps that they took, and whether an index of the QL step still had a coupling left after its turn.
 #[derive(Clone, Copy)]
@@ -25,13 +26,12 @@ pub struct Numbers {
     pub stuck: bool,
 }
 
-#[derive(Clone, Copy)]
-pub enum Spectrum {
+#[derive(Clone, Copy, Debug, PartialEq, Eq)]
+pub enum SpectrumError {
     // An entry of M A M is not finite.
     MatrixNotFinite,
     // One of the n numbers that the QL step delivers is not finite.
     NumberNotFinite,
-    Kept(Numbers),
 }
 
 // The eigenvalues of the symmetric matrix of n rows whose lower triangle is in the front of the room. `d` and `e` are room for its bands, n numbers each.
@@ -41,7 +41,7 @@ fn delivered(
     d: &mut [f64],
     e: &mut [f64],
     kept: &mut [f64],
-) -> Spectrum
+) -> Result<Numbers, SpectrumError>
     requires { (triangle size.rows ≤ length room.old) × (size.rows ≤ max_rows) × (size.columns ≤ size.rows) × (length d.old ≡ size.rows) × (length e.old ≡ size.rows) × (size.rows ≤ length kept.old) }
     ensures value { result ≡ delivered_of size.rows size.columns (whole size.rows (take (triangle size.rows) room.old)) }
     ensures room_after { room.new ≡ half_of size.rows (tridiagonal_of size.rows (whole size.rows (take (triangle size.rows) room.old))) ++ drop (triangle size.rows) room.old }
@@ -52,18 +52,13 @@ fn delivered(
     let half = halves::place(n, 0);
     tridiagonal::tridiagonalize(&mut room[..half], n);
     tridiagonal::bands(&room[..half], n, d, e);
-    let swept = ql::ql(d, e, n, Tally::new());
-    let work = swept.work;
-    let stuck = swept.stuck;
-    let bad = floats::search::first_bad(d);
-    match bad {
-        Some(_) => Spectrum::NumberNotFinite,
-        None => {
-            order::order(d, n);
-            let count = order::keep(d, n - k, kept);
-            Spectrum::Kept(Numbers { count, work, stuck })
-        }
+    let Swept { work, stuck } = ql::ql(d, e, n, Tally::new());
+    if floats::search::first_bad(d).is_some() {
+        return Err(SpectrumError::NumberNotFinite);
     }
+    order::order(d, n);
+    let count = order::keep(d, n - k, kept);
+    Ok(Numbers { count, work, stuck })
 }
 
 // The kept eigenvalues into the front of `kept`, how many, and the sweeps. The first n (n + 1) numbers of the room are worked in.
@@ -73,20 +68,17 @@ pub fn ma_eigenvalues(
     inverse: Matrix,
     room: &mut [f64],
     kept: &mut [f64],
-) -> Spectrum
+) -> Result<Numbers, SpectrumError>
     requires { (Design size columns.now) × (size.columns ≤ size.rows) × (matrix_room size.rows ≤ length room.old) × (size.rows ≤ length kept.old) }
     ensures value { result ≡ spectrum_of columns.now inverse size.rows size.columns }
     ensures kept_after { kept.new ≡ kept_numbers columns.now inverse size.rows size.columns ++ drop (length (kept_numbers columns.now inverse size.rows size.columns)) kept.old }
     ensures room_after { room.new ≡ front_of columns.now inverse size.rows size.columns ++ (half_of size.rows (residual_maker columns.now inverse size.rows size.columns) ++ drop (matrix_room size.rows) room.old) }
 {
     let n = size.rows;
-    let found = projection::mam(room, columns, inverse, size);
-    match found {
-        Some(_) => Spectrum::MatrixNotFinite,
-        None => {
-            let mut d = [0.0f64; MAX_ROWS];
-            let mut e = [0.0f64; MAX_ROWS];
-            delivered(room, size, &mut d[..n], &mut e[..n], kept)
-        }
+    if projection::mam(room, columns, inverse, size).is_some() {
+        return Err(SpectrumError::MatrixNotFinite);
     }
+    let mut d = [0.0f64; MAX_ROWS];
+    let mut e = [0.0f64; MAX_ROWS];
+    delivered(room, size, &mut d[..n], &mut e[..n], kept)
 }

@@ -16,10 +16,9 @@ use Rattle.imhof.specs.declared.Part.{Part}
 use Rattle.imhof.specs.declared.Standing.{Standing}
 use Rattle.imhof.specs.declared.Standing.TheVariants.{Open, Settled, Refused}
 use Rattle.imhof.specs.declared.Integral.{Integral}
-use Rattle.imhof.specs.declared.Quadrature.{Quadrature}
-use Rattle.imhof.specs.declared.Quadrature.TheVariants.{Sum, Broken}
+use Rattle.imhof.specs.Quadrature.{Quadrature, broken}
+use Rattle.std.specs.Prelude.{Ok, Err}
 use Rattle.imhof.specs.declared.Estimate.{Estimate}
-use Rattle.imhof.specs.declared.Exact.TheVariants.{Value}
 use Rattle.imhof.specs.Integrand.{integrand_of}
 use Rattle.imhof.specs.Rule.{gk15_of}
 use Rattle.imhof.specs.Parts.{most_bisections, errors_of, finite_part, looked_at, Stage, stage, tolerance, next_stage, stage_after}
@@ -62,69 +61,69 @@ after-turns f a b (suc k) =
 
 -- ---- few bisections
 
-broken-sum : {i : Integral} → Broken ≡ Sum i → ⊥
+broken-sum : {i : Integral} → ◌≡◌ {A = Quadrature} broken (Ok i) → ⊥
 broken-sum q = let z : ◌≡◌ {A = ℕ} 0 1 = cc in omega arith
 
-same_sum : {i j : Integral} → Sum i ≡ Sum j → i ≡ j
+same_sum : {i j : Integral} → ◌≡◌ {A = Quadrature} (Ok i) (Ok j) → i ≡ j
 same_sum q = cc
 
-few : (k : ℕ) (s : Stage) → After k s → (i : Integral) → quadrature_of s ≡ Sum i → i.tally.bisections < k → small_sum i ≡ true
+few : (k : ℕ) (s : Stage) → After k s → (i : Integral) → quadrature_of s ≡ Ok i → i.tally.bisections < k → small_sum i ≡ true
 few k s = go s.parts s.tally s.standing
   where
-    go : (ps : List Part) (t : Tally) (now : Standing) → Stands now k ps t → (i : Integral) → quadrature_of (stage ps t now) ≡ Sum i → i.tally.bisections < k → small_sum i ≡ true
+    go : (ps : List Part) (t : Tally) (now : Standing) → Stands now k ps t → (i : Integral) → quadrature_of (stage ps t now) ≡ Ok i → i.tally.bisections < k → small_sum i ≡ true
     go ps t Open h i q l = let z : t.bisections ≡ i.tally.bisections = ap (λ j. j.tally.bisections) (same_sum q) in absurd (omega arith)
     go ps t Settled h i q l = subst (λ j. small_sum j ≡ true) (same_sum q) h
     go ps t Refused h i q l = absurd (broken-sum q)
 
 -- the integral between any two ends
-pub few-turns : (f : Float → Float) (a b : Float) (k : ℕ) (i : Integral) → quadrature_of (stage_after k f a b) ≡ Sum i → i.tally.bisections < k → small_sum i ≡ true
+pub few-turns : (f : Float → Float) (a b : Float) (k : ℕ) (i : Integral) → quadrature_of (stage_after k f a b) ≡ Ok i → i.tally.bisections < k → small_sum i ≡ true
 few-turns f a b k = few k (stage_after k f a b) (after-turns f a b k)
 
 -- FEW BISECTIONS: an integral that is a sum, of fewer than the most bisections, has a final error sum of at most the tolerance
-pub few-bisections : (ws : List Float) (i : Integral) → quadrature_of (last_stage ws) ≡ Sum i → i.tally.bisections < most_bisections → small_sum i ≡ true
+pub few-bisections : (ws : List Float) (i : Integral) → quadrature_of (last_stage ws) ≡ Ok i → i.tally.bisections < most_bisections → small_sum i ≡ true
 few-bisections ws i q l = go (finite (low_end ws) && finite (high_end ws)) q
   where
-    go : (fine : Bool) → quadrature_of (last_stage_by fine ws) ≡ Sum i → small_sum i ≡ true
+    go : (fine : Bool) → quadrature_of (last_stage_by fine ws) ≡ Ok i → small_sum i ≡ true
     go true q = few-turns (integrand_of ws) (low_end ws) (high_end ws) most_bisections i q l
     go false q = absurd (broken-sum q)
 
 -- ---- what an estimate says of its error sum
 
 -- an integral was needed: whether the last stage's error sum is at most 5e-12
-pub small-of-integral : (eigenvalues : List Float) (d : Float) (e : Estimate) → signs_of (weights_of eigenvalues d) ≡ mixed → (imhof_of eigenvalues d).answer ≡ Value e
+pub small-of-integral : (eigenvalues : List Float) (d : Float) (e : Estimate) → signs_of (weights_of eigenvalues d) ≡ mixed → (imhof_of eigenvalues d).answer ≡ Ok e
     → e.small ≡ le (sum_run (errors_of (last_stage (weights_of eigenvalues d)).parts)) tolerance
 unfolding imhof_of
-small-of-integral es d e m q = last (last_stage (weights_of es d)) (subst (λ s. (outcome_by s (weights_of es d)).answer ≡ Value e) m q)
+small-of-integral es d e m q = last (last_stage (weights_of es d)) (subst (λ s. (outcome_by s (weights_of es d)).answer ≡ Ok e) m q)
   where
-    go : (ps : List Part) (t : Tally) (now : Standing) → exact_by (quadrature_of (stage ps t now)) ≡ Value e → e.small ≡ le (sum_run (errors_of ps)) tolerance
+    go : (ps : List Part) (t : Tally) (now : Standing) → exact_by (quadrature_of (stage ps t now)) ≡ Ok e → e.small ≡ le (sum_run (errors_of ps)) tolerance
     go ps t Open q = ap (λ d. d.small) (sym (same-value q))
     go ps t Settled q = ap (λ d. d.small) (sym (same-value q))
     go ps t Refused q = absurd (refused-value q)
 
-    last : (s : Stage) → exact_by (quadrature_of s) ≡ Value e → e.small ≡ le (sum_run (errors_of s.parts)) tolerance
+    last : (s : Stage) → exact_by (quadrature_of s) ≡ Ok e → e.small ≡ le (sum_run (errors_of s.parts)) tolerance
     last s q = go s.parts s.tally s.standing q
 
 -- no integral was needed: yes
-pub small-of-certain : (eigenvalues : List Float) (d : Float) (e : Estimate) → (signs_of (weights_of eigenvalues d) ≡ mixed → ⊥) → (imhof_of eigenvalues d).answer ≡ Value e → e.small ≡ true
+pub small-of-certain : (eigenvalues : List Float) (d : Float) (e : Estimate) → (signs_of (weights_of eigenvalues d) ≡ mixed → ⊥) → (imhof_of eigenvalues d).answer ≡ Ok e → e.small ≡ true
 unfolding imhof_of
 small-of-certain es d e m q = go (signs_of (weights_of es d)) m (weights_of es d) q
   where
-    go : (s : Signs) → (s ≡ mixed → ⊥) → (ws : List Float) → (outcome_by s ws).answer ≡ Value e → e.small ≡ true
+    go : (s : Signs) → (s ≡ mixed → ⊥) → (ws : List Float) → (outcome_by s ws).answer ≡ Ok e → e.small ≡ true
     go none h ws q = absurd (no_value q)
     go above h ws q = ap (λ d. d.small) (sym (same-value q))
     go below h ws q = ap (λ d. d.small) (sym (same-value q))
     go mixed h ws q = absurd (h refl)
 
 -- so an estimate of fewer than the most bisections has a small error sum, whether an integral was needed or not
-pub few-small : (eigenvalues : List Float) (d : Float) (e : Estimate) → (imhof_of eigenvalues d).answer ≡ Value e → e.tally.bisections < most_bisections → e.small ≡ true
+pub few-small : (eigenvalues : List Float) (d : Float) (e : Estimate) → (imhof_of eigenvalues d).answer ≡ Ok e → e.tally.bisections < most_bisections → e.small ≡ true
 unfolding imhof_of
 few-small es d e q l = go (signs_of (weights_of es d)) (weights_of es d) q
   where
-    by : (found : Quadrature) → ((i : Integral) → found ≡ Sum i → i.tally.bisections < most_bisections → small_sum i ≡ true) → exact_by found ≡ Value e → e.small ≡ true
-    by (Sum i) k q = let z = same-value q in ap (λ d. d.small) (sym z) ∙ k i refl (subst (λ n. n < most_bisections) (ap (λ d. d.tally.bisections) (sym z)) l)
-    by Broken k q = absurd (refused-value q)
+    by : (found : Quadrature) → ((i : Integral) → found ≡ Ok i → i.tally.bisections < most_bisections → small_sum i ≡ true) → exact_by found ≡ Ok e → e.small ≡ true
+    by (Ok i) k q = let z = same-value q in ap (λ d. d.small) (sym z) ∙ k i refl (subst (λ n. n < most_bisections) (ap (λ d. d.tally.bisections) (sym z)) l)
+    by (Err x) k q = absurd (refused-value q)
 
-    go : (s : Signs) (ws : List Float) → (outcome_by s ws).answer ≡ Value e → e.small ≡ true
+    go : (s : Signs) (ws : List Float) → (outcome_by s ws).answer ≡ Ok e → e.small ≡ true
     go none ws q = absurd (no_value q)
     go above ws q = ap (λ d. d.small) (sym (same-value q))
     go below ws q = ap (λ d. d.small) (sym (same-value q))

@@ -16,7 +16,7 @@ use Rattle.imhof.specs.declared.Standing.{Standing}
 use Rattle.imhof.specs.declared.Standing.TheVariants.{Open, Settled, Refused}
 use Rattle.imhof.specs.Rule.{gk15_of}
 use Rattle.imhof.specs.Parts.{most_bisections, most_parts, worst_of, bisected_at, finite_part, Stage, stage, one_rule, next_stage, stage_after}
-use Rattle.imhof.specs.declared.Quadrature.TheVariants.{Sum}
+use Rattle.std.specs.Prelude.{Ok}
 use Rattle.imhof.specs.Imhof.{integral_of, quadrature_of}
 use Rattle.imhof.specs.Room.{PartRoom, stored, laid_out, parts_in}
 use Rattle.imhof.proofs.RoomLaws.{laid_more, laid-over, laid_in, in-laid, length-in}
@@ -42,7 +42,7 @@ module _ (f : Float → Float) (s₀ : Stage) where
 
   -- the sums of an end that is not refused are the answer
   abbrev pub Answered : List Float → List Float → Tally → ℕ → Type 0
-  Answered r room t n = (Sum (integral_of (stage (parts_in n room) t Open)) ≡ quadrature_of (turns most_bisections (λ t. next_stage f) s₀)) × (room ≡ laid_out (turns most_bisections (λ t. next_stage f) s₀).parts r)
+  Answered r room t n = (Ok (integral_of (stage (parts_in n room) t Open)) ≡ quadrature_of (turns most_bisections (λ t. next_stage f) s₀)) × (room ≡ laid_out (turns most_bisections (λ t. next_stage f) s₀).parts r)
 
   pub answer-open : (r room : List Float) (t : Tally) (n : ℕ) → Ended r room t n Open → Answered r room t n
   answer-open r room t n h = (sym (ap quadrature_of h.0), ended-laid r room t n Open h)

@@ -1,6 +1,6 @@
 -- Imhof's probability that the sum of w z² over the weights w is below 0, the z independent and standard normal: 1/2 - integral / pi (Imhof 1961).
 -- Runs are lists of binary64 values, each operation is rounded once (floats' Words). Definitions only. Assumes nothing.
-use Rattle.std.specs.Prelude.{Bool, true, false, ◌&&◌, cond, List, [], Float}
+use Rattle.std.specs.Prelude.{Bool, true, false, ◌&&◌, cond, List, [], Float, Result, Ok, Err}
 use Rattle.std.specs.Float.Ieee.{lt, le}
 use Rattle.std.specs.Float.Ieee.Scale.{finite}
 use Rattle.floats.specs.Words.{◌⊖◌, ◌⊘◌, float, plus_zero, one}
@@ -14,12 +14,11 @@ use Rattle.imhof.specs.declared.Part.{Part}
 use Rattle.imhof.specs.declared.Standing.{Standing}
 use Rattle.imhof.specs.declared.Standing.TheVariants.{Open, Settled, Refused}
 use Rattle.imhof.specs.declared.Integral.{Integral}
-use Rattle.imhof.specs.declared.Quadrature.{Quadrature}
-use Rattle.imhof.specs.declared.Quadrature.TheVariants.{Sum, Broken}
 use Rattle.imhof.specs.declared.Estimate.{Estimate}
-use Rattle.imhof.specs.declared.Exact.{Exact}
-use Rattle.imhof.specs.declared.Exact.TheVariants.{NoWeight, NotFinite, Value}
+use Rattle.imhof.specs.declared.ExactError.{ExactError}
+use Rattle.imhof.specs.declared.ExactError.TheVariants.{NoWeight, NotFinite}
 use Rattle.imhof.specs.Integrand.{integrand_of}
+use Rattle.imhof.specs.Quadrature.{Quadrature, broken}
 use Rattle.imhof.specs.Parts.{most_bisections, Stage, stage, stage_after, values_of, errors_of, tolerance}
 
 -- what the parts of a stage add up to, first to last
@@ -31,9 +30,9 @@ abbrev pub small_sum : Integral → Bool
 small_sum i = le i.error tolerance
 
 abbrev pub quadrature_by : Standing → Stage → Quadrature
-quadrature_by Open s = Sum (integral_of s)
-quadrature_by Settled s = Sum (integral_of s)
-quadrature_by Refused s = Broken
+quadrature_by Open s = Ok (integral_of s)
+quadrature_by Settled s = Ok (integral_of s)
+quadrature_by Refused s = broken
 
 -- the integral that a last stage stands for; none where a number was not finite
 abbrev pub quadrature_of : Stage → Quadrature
@@ -59,19 +58,22 @@ abbrev pub estimate_of : Float → Tally → Bool → Estimate
 estimate_of p t small = record { raw = p; probability = clamp_of p; tally = t; small = small }
 
 -- 1/2 - integral / pi
-abbrev pub exact_by : Quadrature → Exact
-exact_by (Sum i) = Value (estimate_of (half ⊖ i.value ⊘ pi) i.tally (small_sum i))
-exact_by Broken = NotFinite
+abbrev pub estimate_by : Integral → Estimate
+estimate_by i = estimate_of (half ⊖ i.value ⊘ pi) i.tally (small_sum i)
+
+abbrev pub exact_by : Quadrature → Result Estimate ExactError
+exact_by (Ok i) = Ok (estimate_by i)
+exact_by (Err e) = Err NotFinite
 
 -- the answer, and the parts that it leaves in the part room
 pub record Outcome : Type 0 where
-  pub answer : Exact
+  pub answer : Result Estimate ExactError
   pub parts : List Part
 
 abbrev pub outcome_by : Signs → List Float → Outcome
-outcome_by none ws = record { answer = NoWeight; parts = [] }
-outcome_by above ws = record { answer = Value (estimate_of plus_zero no_work true); parts = [] }
-outcome_by below ws = record { answer = Value (estimate_of one no_work true); parts = [] }
+outcome_by none ws = record { answer = Err NoWeight; parts = [] }
+outcome_by above ws = record { answer = Ok (estimate_of plus_zero no_work true); parts = [] }
+outcome_by below ws = record { answer = Ok (estimate_of one no_work true); parts = [] }
 outcome_by mixed ws = record { answer = exact_by (quadrature_of (last_stage ws)); parts = (last_stage ws).parts }
 
 unfoldable pub imhof_of : List Float → Float → Outcome

@@ -2,4 +2,5 @@ pub mod Integrand
 pub mod Rule
 pub mod Parts
 pub mod Room
+pub mod Quadrature
 pub mod Imhof

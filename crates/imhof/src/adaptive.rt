@@ -1,41 +1,23 @@
 // Adaptive quadrature over the part room: the part of greatest error is bisected until the summed error is small enough.
-ghost use Rattle.std.specs.Prelude.{◌≡◌, ◌&&◌, ◌<◌, ◌≤◌, ◌+◌, ◌*◌, ◌^◌, length};
-ghost use Rattle.std.specs.Float.Ieee.Scale.{finite};
+ghost use Rattle.std.specs.Prelude.{◌≡◌, ◌<◌, ◌≤◌, ◌+◌, ◌*◌, ◌^◌, length};
 ghost use Rattle.floats.specs.Limits.{max_rows};
 ghost use Rattle.floats.specs.Count.{no_work, one_bisection};
 ghost use Rattle.floats.specs.Turns.{turns};
 ghost use Rattle.floats.specs.declared.tally.Tally.{Tally};
 ghost use Rattle.imhof.specs.Imhof.{integral_of, small_sum, quadrature_of, last_stage};
 ghost use Rattle.imhof.specs.Integrand.{integrand_of};
-ghost use Rattle.imhof.specs.Parts.{most_bisections, most_parts, finite_part, one_rule, stage, next_stage, stage_after};
+ghost use Rattle.imhof.specs.Parts.{most_bisections, most_parts, one_rule, stage, next_stage, stage_after};
 ghost use Rattle.imhof.specs.Room.{PartRoom, parts_in, laid_out};
 ghost use Rattle.imhof.specs.Rule.{rule_size};
 ghost use Rattle.imhof.specs.declared.Standing.TheVariants.{Open};
 
-use super::rule::{Halves, RULE_SIZE, bisect, gk15};
-use super::{Integral, MOST_PARTS, Part, Quadrature, Standing, room};
+use super::rule::{RULE_SIZE, bisect, gk15};
+use super::{Integral, MOST_PARTS, NotFinite, Part, Standing, room};
+use floats::signs::is_finite;
 use floats::tally::Tally;
 
 // Half of 1e-11: the cuts of the range and the quadrature share it.
 pub const TOLERANCE: f64 = 5e-12;
-
-pub fn is_finite_part(p: Part) -> bool
-    ensures { result ≡ finite_part p }
-{
-    if floats::signs::is_finite(p.value) {
-        return floats::signs::is_finite(p.error);
-    }
-    false
-}
-
-pub fn are_finite(h: Halves) -> bool
-    ensures { result ≡ finite_part h.left && finite_part h.right }
-{
-    if is_finite_part(h.left) {
-        return is_finite_part(h.right);
-    }
-    false
-}
 
 // One turn over n parts: if their summed error is at most the tolerance they are settled, else the one of greatest error is bisected.
 // Where a half's value or error is not finite the parts stay as they were. How they stand does not depend on the tally t.
@@ -49,7 +31,7 @@ pub fn advance(weights: &[f64], parts: &mut [f64], n: usize) -> Standing
     }
     let w = room::worst(parts, n);
     let h = bisect(weights, room::part_at(parts, w));
-    if !are_finite(h) {
+    if !h.are_finite() {
         return Standing::Refused;
     }
     room::replace(parts, n, w, h.left, h.right);
@@ -84,50 +66,52 @@ pub fn is_small(i: Integral) -> bool
 }
 
 // At most MOST_BISECTIONS turns, from the room's first part on.
-fn refine(weights: &[f64], parts: &mut [f64]) -> Quadrature
+fn refine(weights: &[f64], parts: &mut [f64]) -> Result<Integral, NotFinite>
     requires { PartRoom parts.old }
     ensures value { result ≡ quadrature_of (turns most_bisections (λ t. next_stage (integrand_of weights.now)) (stage (parts_in 1 parts.old) (one_rule no_work) Open)) }
     ensures parts_after { parts.new ≡ laid_out (turns most_bisections (λ t. next_stage (integrand_of weights.now)) (stage (parts_in 1 parts.old) (one_rule no_work) Open)).parts parts.old }
 {
     let mut tally = Tally::new().evaluated(RULE_SIZE);
-    let mut n = 1;
-    while n < MOST_PARTS {
-        let standing = advance(weights, parts, n);
-        match standing {
-            Standing::Open => {}
-            Standing::Settled => break,
-            Standing::Refused => return Quadrature::Broken,
+    for n in 1..MOST_PARTS {
+        match advance(weights, parts, n) {
+            Standing::Open => tally = with_bisection(tally),
+            Standing::Settled => return Ok(total(parts, n, tally)),
+            Standing::Refused => return Err(NotFinite),
         }
-        tally = with_bisection(tally);
-        n += 1;
     }
-    Quadrature::Sum(total(parts, n, tally))
+    Ok(total(parts, MOST_PARTS, tally))
 }
 
 // The integral from lo to hi: one part, then at most MOST_BISECTIONS turns.
-pub fn integrate(weights: &[f64], lo: f64, hi: f64, parts: &mut [f64]) -> Quadrature
+pub fn integrate(
+    weights: &[f64],
+    lo: f64,
+    hi: f64,
+    parts: &mut [f64],
+) -> Result<Integral, NotFinite>
     requires { PartRoom parts.old }
     ensures value { result ≡ quadrature_of (stage_after most_bisections (integrand_of weights.now) lo hi) }
     ensures parts_after { parts.new ≡ laid_out (stage_after most_bisections (integrand_of weights.now) lo hi).parts parts.old }
 {
     let whole = gk15(weights, lo, hi);
-    if !is_finite_part(whole) {
-        return Quadrature::Broken;
+    if !whole.is_finite() {
+        return Err(NotFinite);
     }
     room::put(parts, 0, whole);
     refine(weights, parts)
 }
 
 // The integral over the weights' own range.
-pub fn over_range(weights: &[f64], parts: &mut [f64]) -> Quadrature
+#[tactic(auto, using(crate::proofs::HeldLaws::laid_none))]
+pub fn over_range(weights: &[f64], parts: &mut [f64]) -> Result<Integral, NotFinite>
     requires { (length weights.now ≤ max_rows) × PartRoom parts.old }
     ensures value { result ≡ quadrature_of (last_stage weights.now) }
     ensures parts_after { parts.new ≡ laid_out (last_stage weights.now).parts parts.old }
 {
     let lo = weights::range::low_end(weights);
     let hi = weights::range::high_end(weights);
-    if floats::signs::is_finite(lo) && floats::signs::is_finite(hi) {
+    if is_finite(lo) && is_finite(hi) {
         return integrate(weights, lo, hi, parts);
     }
-    Quadrature::Broken
+    Err(NotFinite)
 }

@@ -5,12 +5,14 @@
 ghost use Rattle.std.specs.Prelude.{◌≡◌, true, ◌≤◌, length};
 ghost use Rattle.floats.specs.Limits.{max_rows};
 ghost use Rattle.floats.specs.Count.{no_work};
-ghost use Rattle.imhof.specs.Imhof.{imhof_of, outcome_by, exact_by, clamp_of, estimate_of};
-ghost use Rattle.imhof.specs.declared.Exact.TheVariants.{Value};
+ghost use Rattle.imhof.specs.Imhof.{imhof_of, outcome_by, estimate_by, clamp_of, estimate_of};
+ghost use Rattle.imhof.specs.declared.ExactError.TheVariants.{NotFinite};
+ghost use Rattle.imhof.specs.Parts.{finite_part};
 ghost use Rattle.weights.specs.Weights.{signs_of};
 ghost use Rattle.imhof.specs.Room.{PartRoom, laid_out};
 
 use floats::limits::MAX_ROWS;
+use floats::signs::is_finite;
 use floats::tally::Tally;
 
 pub mod adaptive;
@@ -35,6 +37,15 @@ pub struct Part {
     pub error: f64,
 }
 
+impl Part {
+    // Whether its value and its error estimate are finite.
+    pub fn is_finite(self) -> bool
+        ensures { result ≡ finite_part self }
+    {
+        is_finite(self.value) && is_finite(self.error)
+    }
+}
+
 // Whether another bisection may follow, the errors are small enough, or a number was not finite.
 #[derive(Clone, Copy)]
 pub enum Standing {
@@ -51,12 +62,9 @@ pub struct Integral {
     pub tally: Tally,
 }
 
-// An integral, or that a number was not finite on the way.
-#[derive(Clone, Copy)]
-pub enum Quadrature {
-    Sum(Integral),
-    Broken,
-}
+// A number was not finite on the way: an end of the range, or a part's value or error estimate.
+#[derive(Clone, Copy, Debug, PartialEq, Eq)]
+pub struct NotFinite;
 
 // A probability as it came out, the same clamped to [0, 1], the work it took, and whether the final error sum is small enough:
 // yes where no integral was needed.
@@ -68,13 +76,21 @@ pub struct Estimate {
     pub small: bool,
 }
 
-#[derive(Clone, Copy)]
-pub enum Exact {
-    // Each eigenvalue equals the statistic: there is no exact value.
+// Why there is no exact value.
+#[derive(Clone, Copy, Debug, PartialEq, Eq)]
+pub enum ExactError {
+    // Each eigenvalue equals the statistic.
     NoWeight,
     // An end of the range, or a part's value or error estimate, is not finite.
     NotFinite,
-    Value(Estimate),
+}
+
+impl From<NotFinite> for ExactError {
+    ghost from_gives = { λ _ e. e ≡ NotFinite };
+
+    fn from(_e: NotFinite) -> ExactError {
+        ExactError::NotFinite
+    }
 }
 
 // Rust's clamp to [0, 1].
@@ -102,47 +118,49 @@ fn clamped(raw: f64, tally: Tally, small: bool) -> Estimate
 }
 
 // A probability that took no work.
-fn certain(p: f64) -> Exact
-    ensures { result ≡ Value (estimate_of p no_work true) }
+fn certain(p: f64) -> Estimate
+    ensures { result ≡ estimate_of p no_work true }
 {
-    Exact::Value(clamped(p, Tally::new(), true))
+    clamped(p, Tally::new(), true)
 }
 
 // 1/2 - integral / pi.
-fn from_integral(found: Quadrature) -> Exact
-    ensures { result ≡ exact_by found }
+fn from_integral(i: Integral) -> Estimate
+    ensures { result ≡ estimate_by i }
 {
-    match found {
-        Quadrature::Sum(i) => Exact::Value(clamped(
-            0.5 - i.value / 3.141592653589793,
-            i.tally,
-            adaptive::is_small(i),
-        )),
-        Quadrature::Broken => Exact::NotFinite,
-    }
+    clamped(
+        0.5 - i.value / 3.141592653589793,
+        i.tally,
+        adaptive::is_small(i),
+    )
 }
 
 // The probability for given weights, none of them 0.
-fn below_zero(weights: &[f64], parts: &mut [f64]) -> Exact
+#[tactic(auto, using(crate::proofs::HeldLaws::laid_none))]
+fn below_zero(weights: &[f64], parts: &mut [f64]) -> Result<Estimate, ExactError>
     requires { (length weights.now ≤ max_rows) × PartRoom parts.old }
     ensures value { result ≡ (outcome_by (signs_of weights.now) weights.now).answer }
     ensures parts_after { parts.new ≡ laid_out (outcome_by (signs_of weights.now) weights.now).parts parts.old }
 {
-    if weights.len() == 0 {
-        return Exact::NoWeight;
+    if weights.is_empty() {
+        return Err(ExactError::NoWeight);
     }
     if weights::all_above(weights) {
-        return certain(0.0);
+        return Ok(certain(0.0));
     }
     if weights::all_below(weights) {
-        return certain(1.0);
+        return Ok(certain(1.0));
     }
-    from_integral(adaptive::over_range(weights, parts))
+    Ok(from_integral(adaptive::over_range(weights, parts)?))
 }
 
 // P(sum of (eigenvalue - d) z² < 0) for independent standard normal z: the lower tail of the statistic at d.
 // `parts` is the part room, at least PART_ROOM numbers; it keeps the parts of the last stage.
-pub fn prob_below_zero(eigenvalues: &[f64], d: f64, parts: &mut [f64]) -> Exact
+pub fn prob_below_zero(
+    eigenvalues: &[f64],
+    d: f64,
+    parts: &mut [f64],
+) -> Result<Estimate, ExactError>
     requires { (length eigenvalues.now ≤ max_rows) × PartRoom parts.old }
     ensures value { result ≡ (imhof_of eigenvalues.now d).answer }
     ensures parts_after { parts.new ≡ laid_out (imhof_of eigenvalues.now d).parts parts.old }

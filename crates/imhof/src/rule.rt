@@ -1,8 +1,7 @@
 // The Gauss-Kronrod rule of 7 and 15 points.
-ghost use Rattle.std.specs.Prelude.{◌≡◌, [], ◌∷◌, ◌++◌, length};
-ghost use Rattle.elementary.specs.Points.{points};
+ghost use Rattle.std.specs.Prelude.{◌≡◌, ◌&&◌, [], ◌∷◌, ◌++◌};
 ghost use Rattle.imhof.specs.Integrand.{integrand_of};
-ghost use Rattle.imhof.specs.Parts.{left_half, right_half};
+ghost use Rattle.imhof.specs.Parts.{finite_part, left_half, right_half};
 ghost use Rattle.imhof.specs.Rule.{gk15_of, middle_of, points_of, rule_of};
 
 use super::Part;
@@ -12,6 +11,15 @@ use integrand::integrands;
 pub struct Halves {
     pub left: Part,
     pub right: Part,
+}
+
+impl Halves {
+    // Whether both are.
+    pub fn are_finite(self) -> bool
+        ensures { result ≡ finite_part self.left && finite_part self.right }
+    {
+        self.left.is_finite() && self.right.is_finite()
+    }
 }
 
 // How many points the rule has.
@@ -64,8 +72,7 @@ fn laid(a: f64, b: f64) -> [f64; 16]
 }
 
 // The part from a to b, of the integrand's values where `laid` has it asked: Kronrod's estimate, and its distance from Gauss's.
-fn gathered(f: &[f64], a: f64, b: f64) -> Part
-    requires { length f.now ≡ 16 }
+fn gathered(f: &[f64; 16], a: f64, b: f64) -> Part
     ensures { result ≡ rule_of a b f.now }
 {
     let h = 0.5 * (b - a);
@@ -86,32 +93,23 @@ fn gathered(f: &[f64], a: f64, b: f64) -> Part
     }
 }
 
-// The part from a to b: 15 evaluations of the integrand, and one at the sixteenth place, which nothing reads and no count has. The table is lent.
-fn gk15_by(ps: &[f64], weights: &[f64], a: f64, b: f64) -> Part
-    requires { ps.now ≡ points }
-    ensures { result ≡ gk15_of (integrand_of weights.now) a b }
-{
-    let mut f = laid(a, b);
-    integrands(ps, weights, &mut f);
-    gathered(&f, a, b)
-}
-
-// The part from a to b: Kronrod's estimate, and its distance from Gauss's.
+// The part from a to b: Kronrod's estimate, and its distance from Gauss's. 15 evaluations of the integrand, and one at the sixteenth place, which nothing reads and no count has.
 pub fn gk15(weights: &[f64], a: f64, b: f64) -> Part
     ensures { result ≡ gk15_of (integrand_of weights.now) a b }
 {
-    let points = elementary::points::points();
-    gk15_by(&points, weights, a, b)
+    let mut f = laid(a, b);
+    integrands(weights, &mut f);
+    gathered(&f, a, b)
 }
 
 // The two halves of a part: 2 * RULE_SIZE evaluations are counted.
 pub fn bisect(weights: &[f64], p: Part) -> Halves
-    ensures { (result.left ≡ left_half (integrand_of weights.now) p) × (result.right ≡ right_half (integrand_of weights.now) p) }
+    ensures left { result.left ≡ left_half (integrand_of weights.now) p }
+    ensures right { result.right ≡ right_half (integrand_of weights.now) p }
 {
-    let points = elementary::points::points();
     let mid = 0.5 * (p.lo + p.hi);
     Halves {
-        left: gk15_by(&points, weights, p.lo, mid),
-        right: gk15_by(&points, weights, mid, p.hi),
+        left: gk15(weights, p.lo, mid),
+        right: gk15(weights, mid, p.hi),
     }
 }

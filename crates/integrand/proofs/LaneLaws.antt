@@ -17,6 +17,7 @@ use Rattle.elementary.specs.Near.{reach, angle_by, log_by}
 use Rattle.elementary.specs.Atan.{atan_size, atan_by, atan_of}
 use Rattle.elementary.specs.Ln.{ln1p_by, ln1p_of}
 use Rattle.elementary.specs.Exp.{exp_of}
+use Rattle.elementary.specs.Points.{points}
 use Rattle.elementary.specs.Sin.{sin_of}
 use Rattle.floats.specs.Sums.{sum_of}
 use Rattle.floats.specs.Tables.{table}
@@ -90,7 +91,7 @@ module _ (w u most : Float) (above : lt plus_zero u ≡ true) (upto : le u most 
           let m : minus (w ⊗ u) ≡ true = ap minus (sym (neg-neg (w ⊗ u)) ∙ ap neg e) ∙ neg-minus (neg w ⊗ u) reach (product-plus (neg w) u (minus-neg w h) (above-plus u above)) n in
           rw (m, e) (ap neg (sym (size-angle ps (neg w ⊗ u) n)))
 
-module _ (ps : List Float) (w most : Float) (us : List Float) (upto : Upto us most) (near : T (lt (square_of (w ⊗ most)) reach)) (b : Bool) (sign : minus w ≡ b) where
+module _ (w most : Float) (us : List Float) (upto : Upto us most) (near : T (lt (square_of (w ⊗ most)) reach)) (b : Bool) (sign : minus w ≡ b) where
   -- each u is above 0 and at most the largest: where that is a NaN nothing is near
   each : (j : ℕ) → j < 16 → (lt plus_zero (us ‼ j) ≡ true) × (le (us ‼ j) most ≡ true)
   each = ⊎_elim (λ h. absurd (far-nan w most reach h near)) (λ f. f) upto
@@ -100,17 +101,19 @@ module _ (ps : List Float) (w most : Float) (us : List Float) (upto : Upto us mo
   lanes-near j h = subst (λ (s : Bool). T (lt (square_of (size_of s w ⊗ us ‼ j)) reach)) sign (near-size w (us ‼ j) most (each j h).0 (each j h).1 near)
 
   -- the terms near points are the weight's terms
-  pub lanes-angles : (sums : List Float) → added_to (λ x. cond b (neg (angle_by ps (size_of b w ⊗ x))) (angle_by ps (size_of b w ⊗ x))) us sums ≡ added_to (λ x. atan_by ps (w ⊗ x)) us sums
+  pub lanes-angles : (sums : List Float) → added_to (λ x. cond b (neg (angle_by points (size_of b w ⊗ x))) (angle_by points (size_of b w ⊗ x))) us sums ≡ added_to (λ x. atan_of (w ⊗ x)) us sums
+  unfolding atan_of
   lanes-angles sums =
       table_same _ _ 16
       (λ j h. ap (λ (y : Float). sums ‼ j ⊕ y)
-      (subst (λ (s : Bool). cond s (neg (angle_by ps (size_of s w ⊗ us ‼ j))) (angle_by ps (size_of s w ⊗ us ‼ j)) ≡ atan_by ps (w ⊗ us ‼ j)) sign (near-angle w (us ‼ j) most (each j h).0 (each j h).1 near ps)))
+      (subst (λ (s : Bool). cond s (neg (angle_by points (size_of s w ⊗ us ‼ j))) (angle_by points (size_of s w ⊗ us ‼ j)) ≡ atan_by points (w ⊗ us ‼ j)) sign (near-angle w (us ‼ j) most (each j h).0 (each j h).1 near points)))
 
-  pub lanes-logs : (sums : List Float) → added_to (λ x. log_by ps (square_of (size_of b w ⊗ x))) us sums ≡ added_to (λ x. ln1p_by ps (square_of (w ⊗ x))) us sums
+  pub lanes-logs : (sums : List Float) → added_to (λ x. log_by points (square_of (size_of b w ⊗ x))) us sums ≡ added_to (λ x. ln1p_of (square_of (w ⊗ x))) us sums
+  unfolding ln1p_of
   lanes-logs sums =
       table_same _ _ 16
       (λ j h. ap (λ (y : Float). sums ‼ j ⊕ y)
-      (subst (λ (s : Bool). log_by ps (square_of (size_of s w ⊗ us ‼ j)) ≡ ln1p_by ps (square_of (w ⊗ us ‼ j))) sign (near-log w (us ‼ j) most (each j h).0 (each j h).1 near ps)))
+      (subst (λ (s : Bool). log_by points (square_of (size_of s w ⊗ us ‼ j)) ≡ ln1p_by points (square_of (w ⊗ us ‼ j))) sign (near-log w (us ‼ j) most (each j h).0 (each j h).1 near points)))
 
 -- ---- the sums at sixteen points
 

@@ -79,6 +79,10 @@ module _ (values patterns : List ℕ) where
   pub room_next : (t : ℕ) → t < length values → longest_of (kinds_of (drop t (words_at values patterns))) ≡ widest_of (kind_at patterns t) + longest_of (kinds_of (drop (t + 1) (words_at values patterns)))
   room_next t h = ap (λ ws. longest_of (kinds_of ws)) (words-next t h)
 
+  -- where the words from the t-th on have room, it and the byte behind it have
+  pub word-room : (t at n v d : ℕ) → t < length values → at + longest_of (kinds_of (drop t (words_at values patterns))) ≤ n → at + length (text_of (kind_at patterns t) v ++ (d ∷ [])) ≤ n
+  word-room t at n v d h room = omega (arith, room, room_next t h, text-most (kind_at patterns t) v d)
+
   -- how many words are left behind word t
   pub left-next : (t : ℕ) → length (drop (t + 1) (words_at values patterns)) ≡ length values - 1 - t
   left-next t = length-drop (t + 1) (words_at values patterns) ∙ rw (length-table (word_at values patterns) (length values)) (omega arith)

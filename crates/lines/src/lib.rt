@@ -12,7 +12,7 @@ ghost use Rattle.lines.specs.Fields.{fields_of, values_of, longest, file_line_of
 use floats::bits::bits_of;
 use outcome::Outcome;
 use sheet::file::FileRefusal;
-use words::{WIDEST_DECIMAL, WIDEST_HEX, lacks_room, put_text, put_words};
+use words::{Line, WIDEST_DECIMAL, WIDEST_HEX};
 
 // The words of a line, the index first; and those behind it, which a caller in C is given.
 pub const FIELDS: usize = 12;
@@ -55,9 +55,7 @@ pub fn write_line(i: usize, o: Outcome, out: &mut [u8]) -> usize
     ensures out_after { out.new ≡ fronted longest (line_of (fields_of i o)) out.old }
     ensures counts { Counts result out.new }
 {
-    let words = fields_of(i, o);
-    let patterns = PATTERNS;
-    write_words(&words, &patterns, out)
+    write_words(&fields_of(i, o), &PATTERNS, out)
 }
 
 // The same for the line of a file refusal.
@@ -69,9 +67,13 @@ pub fn write_file_refusal(refusal: FileRefusal, out: &mut [u8]) -> usize
     if out.len() < LONGEST {
         return 0;
     }
-    put_text(out, 0, b"file ");
     let words = [refusal.number(), refusal.index() as u64];
-    put_words(out, 5, &words, &[])
+    let line = Line {
+        values: &words,
+        patterns: &[],
+    };
+    out[..5].copy_from_slice(b"file ");
+    5 + line.put(&mut out[5..])
 }
 
 // The same for the line of any words, of which those at the places `patterns` are printed in hex; 0, and `out` as it was, where `out` is shorter than
@@ -81,8 +83,12 @@ pub fn write_words(words: &[u64], patterns: &[usize], out: &mut [u8]) -> usize
     ensures out_after { out.new ≡ words_fronted (words_at words.now patterns.now) out.old }
     ensures counts { Counts result out.new }
 {
-    if lacks_room(words, patterns, out.len()) {
+    let line = Line {
+        values: words,
+        patterns,
+    };
+    if line.lacks_room(out.len()) {
         return 0;
     }
-    put_words(out, 0, words, patterns)
+    line.put(out)
 }

@@ -1,9 +1,9 @@
-// Words put into a buffer: digits, a word, a line.
+// Words put into a buffer: digits, a word, a line. Each function puts what it says at the front of the buffer it is lent, and the rest stays.
 ghost use Rattle.std.specs.Prelude.{◌≡◌, [], ◌∷◌, ◌++◌, ◌+◌, ◌<◌, ◌≤◌, ltb, length};
 ghost use Rattle.lines.specs.Lines.{digit_of, digits, width_of, text_of, widest_of, behind, line_of, longest_of, kinds_of, kind_at, words_at, put_at};
 
 // How a word is printed: a number in decimal, a pattern of 64 bits in 16 hex digits.
-#[derive(Clone, Copy)]
+#[derive(Clone, Copy, Debug, PartialEq, Eq)]
 pub enum Kind {
     Decimal,
     Hex,
@@ -13,6 +13,17 @@ pub enum Kind {
 pub const WIDEST_DECIMAL: usize = 21;
 
 pub const WIDEST_HEX: usize = 17;
+
+impl Kind {
+    fn widest(self) -> usize
+        ensures { result ≡ widest_of self }
+    {
+        match self {
+            Kind::Decimal => WIDEST_DECIMAL,
+            Kind::Hex => WIDEST_HEX,
+        }
+    }
+}
 
 fn digit(d: u64) -> u8
     requires { d < 16 }
@@ -28,42 +39,42 @@ fn width(n: u64) -> usize
     let mut k: usize = 1;
     let mut rest = n;
     while rest >= 10 {
-        rest = rest / 10;
-        k = k + 1;
+        rest /= 10;
+        k += 1;
     }
     k
 }
 
-// Puts the last `k` digits of `n` to the base `base` at `at`, the highest first.
-fn put_digits(out: &mut [u8], at: usize, n: u64, base: u64, k: usize)
-    requires { (0 < base) × (base ≤ 16) × (at + k ≤ length out.old) }
-    ensures { out.new ≡ put_at at (digits base k n) out.old }
+// Fills `out` with as many digits of `n` to the base `base`, the last ones of it, the highest first.
+fn put_digits(out: &mut [u8], n: u64, base: u64)
+    requires { (0 < base) × (base ≤ 16) }
+    ensures { out.new ≡ digits base (length out.old) n }
 {
     let mut rest = n;
-    for t in 0..k {
-        out[at + (k - 1 - t)] = digit(rest % base);
-        rest = rest / base;
+    for t in (0..out.len()).rev() {
+        out[t] = digit(rest % base);
+        rest /= base;
     }
 }
 
-// The same, with the byte `after` behind the digits; gives the place behind it.
-fn put_number(out: &mut [u8], at: usize, n: u64, base: u64, k: usize, after: u8) -> usize
-    requires { (0 < base) × (base ≤ 16) × (at + k + 1 ≤ length out.old) }
-    ensures { (result ≡ at + k + 1) × (out.new ≡ put_at at (digits base k n ++ (after ∷ [])) out.old) }
+// The last `k` digits of `n` to the base `base`, and the byte `after` behind them; gives how many bytes these are.
+fn put_number(out: &mut [u8], n: u64, base: u64, k: usize, after: u8) -> usize
+    requires { (0 < base) × (base ≤ 16) × (k + 1 ≤ length out.old) }
+    ensures { (result ≡ k + 1) × (out.new ≡ put_at 0 (digits base k n ++ (after ∷ [])) out.old) }
 {
-    put_digits(out, at, n, base, k);
-    out[at + k] = after;
-    at + k + 1
+    put_digits(&mut out[..k], n, base);
+    out[k] = after;
+    k + 1
 }
 
-// A word.
-fn put_word(out: &mut [u8], at: usize, kind: Kind, n: u64, after: u8) -> usize
-    requires { at + widest_of kind ≤ length out.old }
-    ensures { (result ≡ at + length (text_of kind n ++ (after ∷ []))) × (out.new ≡ put_at at (text_of kind n ++ (after ∷ [])) out.old) }
+// A word, and the byte `after` behind it; gives how many bytes these are.
+fn put_word(out: &mut [u8], kind: Kind, n: u64, after: u8) -> usize
+    requires { widest_of kind ≤ length out.old }
+    ensures { (result ≡ length (text_of kind n ++ (after ∷ []))) × (out.new ≡ put_at 0 (text_of kind n ++ (after ∷ [])) out.old) }
 {
     match kind {
-        Kind::Decimal => put_number(out, at, n, 10, width(n), after),
-        Kind::Hex => put_number(out, at, n, 16, 16, after),
+        Kind::Decimal => put_number(out, n, 10, width(n), after),
+        Kind::Hex => put_number(out, n, 16, 16, after),
     }
 }
 
@@ -74,60 +85,49 @@ fn byte_behind(left: usize) -> u8
     if left == 0 { b'\n' } else { b' ' }
 }
 
-// The kind of word `t`.
-fn kind_at(patterns: &[usize], t: usize) -> Kind
-    ensures { result ≡ kind_at patterns.now t }
-{
-    for j in 0..patterns.len() {
-        if patterns[j] == t {
-            return Kind::Hex;
+// What a line says: some words, of which those at the places `patterns` are printed in hex.
+#[derive(Clone, Copy)]
+pub struct Line<'a> {
+    pub values: &'a [u64],
+    pub patterns: &'a [usize],
+}
+
+impl Line<'_> {
+    // The kind of word `t`.
+    fn kind(self, t: usize) -> Kind
+        ensures { result ≡ kind_at self.entry.patterns.now t }
+    {
+        if self.patterns.contains(&t) {
+            Kind::Hex
+        } else {
+            Kind::Decimal
         }
     }
-    Kind::Decimal
-}
 
-fn widest(kind: Kind) -> usize
-    ensures { result ≡ widest_of kind }
-{
-    match kind {
-        Kind::Decimal => WIDEST_DECIMAL,
-        Kind::Hex => WIDEST_HEX,
-    }
-}
-
-// Whether `room` bytes are fewer than the longest line of such words has.
-pub fn lacks_room(words: &[u64], patterns: &[usize], room: usize) -> bool
-    ensures { result ≡ ltb room (longest_of (kinds_of (words_at words.now patterns.now))) }
-{
-    let mut left = room;
-    for t in 0..words.len() {
-        let wanted = widest(kind_at(patterns, t));
-        if left < wanted {
-            return true;
+    // Whether `room` bytes are fewer than the longest line of such words has.
+    pub fn lacks_room(self, room: usize) -> bool
+        ensures { result ≡ ltb room (longest_of (kinds_of (words_at self.entry.values.now self.entry.patterns.now))) }
+    {
+        let mut left = room;
+        for t in 0..self.values.len() {
+            let Some(rest) = left.checked_sub(self.kind(t).widest()) else {
+                return true;
+            };
+            left = rest;
         }
-        left = left - wanted;
+        false
     }
-    false
-}
 
-// Puts the line of some words at `at`; gives the place behind it.
-pub fn put_words(out: &mut [u8], at: usize, words: &[u64], patterns: &[usize]) -> usize
-    requires { at + longest_of (kinds_of (words_at words.now patterns.now)) ≤ length out.old }
-    ensures { (result ≡ at + length (line_of (words_at words.now patterns.now))) × (out.new ≡ put_at at (line_of (words_at words.now patterns.now)) out.old) }
-{
-    let mut next = at;
-    for t in 0..words.len() {
-        let after = byte_behind(words.len() - 1 - t);
-        next = put_word(out, next, kind_at(patterns, t), words[t], after);
-    }
-    next
-}
-
-pub fn put_text(out: &mut [u8], at: usize, s: &[u8])
-    requires { at + length s.now ≤ length out.old }
-    ensures { out.new ≡ put_at at s.now out.old }
-{
-    for t in 0..s.len() {
-        out[at + t] = s[t];
+    // Puts the line; gives its length.
+    pub fn put(self, out: &mut [u8]) -> usize
+        requires { longest_of (kinds_of (words_at self.values.now self.patterns.now)) ≤ length out.old }
+        ensures { (result ≡ length (line_of (words_at self.entry.values.now self.entry.patterns.now))) × (out.new ≡ put_at 0 (line_of (words_at self.entry.values.now self.entry.patterns.now)) out.old) }
+    {
+        let mut at = 0;
+        for (t, value) in self.values.iter().enumerate() {
+            let after = byte_behind(self.values.len() - 1 - t);
+            at += put_word(&mut out[at..], self.kind(t), *value, after);
+        }
+        at
     }
 }

@@ -1,4 +1,3 @@
-pub mod RoomLaws
 pub mod PassLaws
 pub mod Bounds
 pub mod Single

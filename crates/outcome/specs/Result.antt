@@ -1,35 +1,30 @@
 -- The result: a refusal with zeros, or the statistic, p and how they came about. Definitions only. Assumes nothing.
-use Rattle.std.specs.Prelude.{ℕ, Bool, true, false, not, ◌&&◌, ltb, Float}
+use Rattle.std.specs.Prelude.{ℕ, Bool, true, false, not, ◌&&◌, ltb, Float, Result, Ok, Err}
 use Rattle.floats.specs.Words.{plus_zero}
 use Rattle.floats.specs.Count.{no_work}
 use Rattle.floats.specs.declared.tally.Tally.{Tally}
 use Rattle.elementary.specs.declared.NormalLaw.{NormalLaw}
 use Rattle.eigen.specs.declared.Numbers.{Numbers}
 use Rattle.imhof.specs.declared.Estimate.{Estimate}
-use Rattle.outcome.specs.Refusals.{passed}
+use Rattle.outcome.specs.Refusals.{passed, refusal_of}
 use Rattle.outcome.specs.declared.Alternative.TheVariants.{Greater}
 use Rattle.outcome.specs.declared.Choice.{Choice}
 use Rattle.outcome.specs.declared.Choice.TheVariants.{Default, Exact, Normal}
 use Rattle.outcome.specs.declared.Asked.{Asked}
+use Rattle.outcome.specs.declared.Path.{Path}
+use Rattle.outcome.specs.declared.Path.TheVariants as path
 use Rattle.outcome.specs.declared.Refusal.{Refusal}
+use Rattle.outcome.specs.declared.refusals.TestError.{TestError}
 use Rattle.outcome.specs.declared.Leaving.{Leaving}
 use Rattle.outcome.specs.declared.Outcome.{Outcome}
 
--- the paths: none; fewer than three rows, where p is 1; Imhof's probability; the normal law; too few rows for a law, where p is 1
-abbrev pub no_path : ℕ
-no_path = 0
-
-abbrev pub few_rows : ℕ
-few_rows = 1
-
-abbrev pub by_imhof_path : ℕ
-by_imhof_path = 2
-
-abbrev pub by_law_path : ℕ
-by_law_path = 3
-
-abbrev pub few_for_law : ℕ
-few_for_law = 4
+-- the paths by the number that a line prints: 0 none; 1 fewer than three rows, where p is 1; 2 Imhof's probability; 3 the normal law; 4 too few rows for a law, where p is 1
+abbrev pub path_number : Path → ℕ
+path_number path.None = 0
+path_number path.FewRows = 1
+path_number path.Imhof = 2
+path_number path.Law = 3
+path_number path.FewForLaw = 4
 
 -- with fewer rows than this nothing is worked out
 abbrev pub least_rows : ℕ
@@ -67,9 +62,14 @@ worked_out s q = record { fallback = false; kept = s.count; work = together s.wo
 -- a refusal: its number, its place and zeros
 abbrev pub refused_of : Refusal → Outcome
 refused_of r =
-    record { refusal = r; statistic = plus_zero; p = plus_zero; alternative = Greater; n = 0; path = no_path; fallback = false; kept = 0; work = no_work; settled = false; law = no_law }
+    record { refusal = r; statistic = plus_zero; p = plus_zero; alternative = Greater; n = 0; path = path.None; fallback = false; kept = 0; work = no_work; settled = false; law = no_law }
+
+-- of a test that ends with a result, or with the reason of its refusal
+abbrev pub outcome_in : Result Outcome TestError → Outcome
+outcome_in (Ok o) = o
+outcome_in (Err why) = refused_of (refusal_of why)
 
 -- an answer by a path
-abbrev pub accepted_of : Asked → Float → ℕ → Leaving → NormalLaw → Outcome
+abbrev pub accepted_of : Asked → Float → Path → Leaving → NormalLaw → Outcome
 accepted_of asked p path left law =
     record { refusal = passed; statistic = asked.statistic; p = p; alternative = asked.alternative; n = asked.rows; path = path; fallback = left.fallback; kept = left.kept; work = left.work; settled = left.settled; law = law }

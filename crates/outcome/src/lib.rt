@@ -3,8 +3,8 @@
 #![tactic(auto)]
 
 ghost use Rattle.std.specs.Prelude.{◌≡◌};
-ghost use Rattle.outcome.specs.Codes.{alternative_of, choice_of};
-ghost use Rattle.outcome.specs.Result.{no_law, direct, fallen_back, worked_out, refused_of, accepted_of, wants_exact};
+ghost use Rattle.outcome.specs.Codes.{alternative_of, choice_of, code_of, alternative_in, choice_in};
+ghost use Rattle.outcome.specs.Result.{path_number, no_law, direct, fallen_back, worked_out, refused_of, accepted_of, wants_exact};
 
 pub mod p;
 pub mod refusals;
@@ -16,7 +16,7 @@ use floats::tally::Tally;
 use imhof::Estimate;
 
 // Of autocorrelation: positive, negative, or either.
-#[derive(Clone, Copy)]
+#[derive(Clone, Copy, Debug, PartialEq, Eq)]
 pub enum Alternative {
     Greater,
     Less,
@@ -24,7 +24,7 @@ pub enum Alternative {
 }
 
 // Exact by default below EXACT_BELOW rows, else normal.
-#[derive(Clone, Copy)]
+#[derive(Clone, Copy, Debug, PartialEq, Eq)]
 pub enum Choice {
     Default,
     Exact,
@@ -39,8 +39,24 @@ pub struct Asked {
     pub rows: usize,
 }
 
+// A code that names no alternative, or no choice.
+#[derive(Clone, Copy, Debug, PartialEq, Eq)]
+pub struct UnknownCode(pub u32);
+
+// How an answer was reached. A refused sheet has no path.
+#[derive(Clone, Copy, Debug, PartialEq, Eq)]
+pub enum Path {
+    None,
+    // Fewer than three rows: p is 1.
+    FewRows,
+    Imhof,
+    Law,
+    // The normal path with too few rows for a law: p is 1.
+    FewForLaw,
+}
+
 // Document 01's number and place of a refusal; 0 and 0 where nothing is refused.
-#[derive(Clone, Copy)]
+#[derive(Clone, Copy, Debug, PartialEq, Eq)]
 pub struct Refusal {
     pub number: usize,
     pub place: usize,
@@ -63,8 +79,7 @@ pub struct Outcome {
     pub p: f64,
     pub alternative: Alternative,
     pub n: usize,
-    // one of the paths below
-    pub path: usize,
+    pub path: Path,
     // the exact path gave no value, and another answered
     pub fallback: bool,
     // eigenvalues kept
@@ -77,19 +92,6 @@ pub struct Outcome {
     pub law: NormalLaw,
 }
 
-// The paths. A refused sheet has none.
-pub const NO_PATH: usize = 0;
-
-// Fewer than three rows: p is 1.
-pub const FEW_ROWS: usize = 1;
-
-pub const BY_IMHOF: usize = 2;
-
-pub const BY_LAW: usize = 3;
-
-// The normal path with too few rows for a law: p is 1.
-pub const FEW_FOR_LAW: usize = 4;
-
 // With fewer rows than this nothing is worked out.
 pub const LEAST_ROWS: usize = 3;
 
@@ -100,26 +102,78 @@ pub const EXACT_BELOW: usize = 100;
 pub fn alternative_of(code: u64) -> Alternative
     ensures { result ≡ alternative_of code }
 {
-    if code == 0 {
-        return Alternative::Greater;
+    match code {
+        0 => Alternative::Greater,
+        1 => Alternative::Less,
+        _ => Alternative::TwoSided,
     }
-    if code == 1 {
-        return Alternative::Less;
+}
+
+// The same of a code that is one of these.
+impl TryFrom<u32> for Alternative {
+    type Error = UnknownCode;
+
+    ghost try_from_gives = { λ code found. found ≡ alternative_in code };
+
+    fn try_from(code: u32) -> Result<Alternative, UnknownCode> {
+        match code {
+            0..=2 => Ok(alternative_of(u64::from(code))),
+            _ => Err(UnknownCode(code)),
+        }
     }
-    Alternative::TwoSided
+}
+
+// Back to its code.
+impl From<Alternative> for u32 {
+    ghost from_gives = { λ alternative code. code ≡ code_of alternative };
+
+    fn from(alternative: Alternative) -> u32 {
+        match alternative {
+            Alternative::Greater => 0,
+            Alternative::Less => 1,
+            Alternative::TwoSided => 2,
+        }
+    }
 }
 
 // The choice of a code: 0 default, 1 exact, 2 (and any other) normal.
 pub fn choice_of(code: u64) -> Choice
     ensures { result ≡ choice_of code }
 {
-    if code == 0 {
-        return Choice::Default;
+    match code {
+        0 => Choice::Default,
+        1 => Choice::Exact,
+        _ => Choice::Normal,
     }
-    if code == 1 {
-        return Choice::Exact;
+}
+
+// The same of a code that is one of these.
+impl TryFrom<u32> for Choice {
+    type Error = UnknownCode;
+
+    ghost try_from_gives = { λ code found. found ≡ choice_in code };
+
+    fn try_from(code: u32) -> Result<Choice, UnknownCode> {
+        match code {
+            0..=2 => Ok(choice_of(u64::from(code))),
+            _ => Err(UnknownCode(code)),
+        }
     }
-    Choice::Normal
+}
+
+// The number that a line prints.
+impl From<Path> for u64 {
+    ghost from_gives = { λ path number. number ≡ path_number path };
+
+    fn from(path: Path) -> u64 {
+        match path {
+            Path::None => 0,
+            Path::FewRows => 1,
+            Path::Imhof => 2,
+            Path::Law => 3,
+            Path::FewForLaw => 4,
+        }
+    }
 }
 
 pub fn wants_exact(choice: Choice, n: usize) -> bool
@@ -157,11 +211,10 @@ pub fn direct() -> Leaving
 pub fn fallen_back(s: Numbers) -> Leaving
     ensures { result ≡ fallen_back s }
 {
-    let work = s.work;
     Leaving {
         fallback: true,
         kept: s.count,
-        work,
+        work: s.work,
         settled: !s.stuck,
     }
 }
@@ -170,17 +223,15 @@ pub fn fallen_back(s: Numbers) -> Leaving
 pub fn worked_out(s: Numbers, q: Estimate) -> Leaving
     ensures { result ≡ worked_out s q }
 {
-    let work = s.work;
-    let tally = q.tally;
-    let both = Tally {
-        sweeps: work.sweeps,
-        bisections: tally.bisections,
-        evaluations: tally.evaluations,
+    let work = Tally {
+        sweeps: s.work.sweeps,
+        bisections: q.tally.bisections,
+        evaluations: q.tally.evaluations,
     };
     Leaving {
         fallback: false,
         kept: s.count,
-        work: both,
+        work,
         settled: !s.stuck & q.small,
     }
 }
@@ -194,7 +245,7 @@ pub fn refused(why: Refusal) -> Outcome
         p: 0.0,
         alternative: Alternative::Greater,
         n: 0,
-        path: NO_PATH,
+        path: Path::None,
         fallback: false,
         kept: 0,
         work: Tally::new(),
@@ -204,11 +255,9 @@ pub fn refused(why: Refusal) -> Outcome
 }
 
 // An answer by a path.
-pub fn accepted(asked: Asked, p: f64, path: usize, left: Leaving, law: NormalLaw) -> Outcome
+pub fn accepted(asked: Asked, p: f64, path: Path, left: Leaving, law: NormalLaw) -> Outcome
     ensures { result ≡ accepted_of asked p path left law }
 {
-    let alternative = asked.alternative;
-    let work = left.work;
     Outcome {
         refusal: Refusal {
             number: 0,
@@ -216,12 +265,12 @@ pub fn accepted(asked: Asked, p: f64, path: usize, left: Leaving, law: NormalLaw
         },
         statistic: asked.statistic,
         p,
-        alternative,
+        alternative: asked.alternative,
         n: asked.rows,
         path,
         fallback: left.fallback,
         kept: left.kept,
-        work,
+        work: left.work,
         settled: left.settled,
         law,
     }

@@ -1,245 +1,173 @@
-// Document 01's numbers: what each step found, as a refusal, whose number and place are 0 where nothing is refused; and what it gives then.
-ghost use Rattle.std.specs.Prelude.{◌≡◌, ◌≤◌};
+// Document 01's refusals: why the test refuses a sheet, and the numbers and places of that.
+ghost use Rattle.std.specs.Prelude.{◌≡◌, ◌≤◌, IfOk};
 ghost use Rattle.floats.specs.Limits.{max_rows, max_columns};
-ghost use Rattle.autocorrelation.specs.Statistic.{value};
-ghost use Rattle.outcome.specs.Refusals.{columns_refusal, size_in, statistic_refusal, rows_refusal, pivots_refusal, inverse_refusal, no_matrix, no_parts, room_refusal, not_finite, quadrature_refusal, records_refusal, not_spread};
+ghost use Rattle.outcome.specs.Refusals.{refusal_of, refusal_in, law_error, spectrum_error, records_error, rows_refusal, inverse_refusal, rooms_of};
 ghost use Rattle.outcome.specs.Rooms.{room_of};
+ghost use Rattle.outcome.specs.declared.refusals.Stage.TheVariants.{Integral};
+ghost use Rattle.outcome.specs.declared.refusals.TestError.TheVariants as error;
 
 use super::Refusal;
 use super::rooms::matrix_room;
-use autocorrelation::Statistic;
-use columns::{Columns, SheetSize};
-use design::{Matrix, Pivots};
-use imhof::Quadrature;
-use records::Answer;
+use autocorrelation::StatisticError;
+use columns::{ColumnsError, SheetSize};
+use design::{FailedPivot, LawError, Matrix};
+use eigen::SpectrumError;
+use records::RecordsError;
 
-// Stages of refusal 13.
-pub const INVERSE: usize = 1;
+// Where on the way a number is not finite.
+#[derive(Clone, Copy, Debug, PartialEq, Eq)]
+pub enum Stage {
+    Inverse,
+    Product,
+    Eigenvalues,
+    Integral,
+    Law,
+}
 
-pub const PRODUCT: usize = 2;
+// Why a sheet is refused, in the order tried.
+#[derive(Clone, Copy, Debug, PartialEq, Eq)]
+pub enum TestError {
+    Columns(ColumnsError),
+    Statistic(StatisticError),
+    // No more rows than columns.
+    FewRows,
+    Pivot(FailedPivot),
+    // The room lent for the matrix, or for the parts, is too small.
+    MatrixRoom,
+    PartRoom,
+    NotFinite(Stage),
+    // The law's variance is not above 0.
+    NotSpread,
+}
 
-pub const EIGENVALUES: usize = 3;
+impl From<ColumnsError> for TestError {
+    ghost from_gives = { λ why e. e ≡ error.Columns why };
 
-pub const INTEGRAL: usize = 4;
-
-pub const LAW: usize = 5;
-
-// Refusals 1 to 4.
-pub fn of_columns(found: Columns) -> Refusal
-    ensures { result ≡ columns_refusal found }
-{
-    match found {
-        Columns::NoColumn => Refusal {
-            number: 1,
-            place: 0,
-        },
-        Columns::RowsOver => Refusal {
-            number: 2,
-            place: 0,
-        },
-        Columns::ColumnsOver => Refusal {
-            number: 2,
-            place: 1,
-        },
-        Columns::WrongLength => Refusal {
-            number: 3,
-            place: 0,
-        },
-        Columns::NotFinite(t) => Refusal {
-            number: 4,
-            place: t,
-        },
-        Columns::Sound(_) => Refusal {
-            number: 0,
-            place: 0,
-        },
+    fn from(why: ColumnsError) -> TestError {
+        TestError::Columns(why)
     }
 }
 
-// The size of sound columns, zeros where they are not.
-pub fn size_in(found: Columns) -> SheetSize
-    ensures { result ≡ size_in found }
-{
-    let none = SheetSize {
-        rows: 0,
-        columns: 0,
-    };
-    match found {
-        Columns::NoColumn => none,
-        Columns::RowsOver => none,
-        Columns::ColumnsOver => none,
-        Columns::WrongLength => none,
-        Columns::NotFinite(_) => none,
-        Columns::Sound(size) => size,
+impl From<StatisticError> for TestError {
+    ghost from_gives = { λ why e. e ≡ error.Statistic why };
+
+    fn from(why: StatisticError) -> TestError {
+        TestError::Statistic(why)
     }
 }
 
-// Refusals 5 to 9.
-pub fn of_statistic(found: Statistic) -> Refusal
-    ensures { result ≡ statistic_refusal found }
-{
-    match found {
-        Statistic::Value(_) => Refusal {
-            number: 0,
-            place: 0,
-        },
-        Statistic::Empty => Refusal {
-            number: 5,
-            place: 0,
-        },
-        Statistic::Single => Refusal {
-            number: 6,
-            place: 0,
-        },
-        Statistic::NotFinite(t) => Refusal {
-            number: 7,
-            place: t,
-        },
-        Statistic::ZeroSum => Refusal {
-            number: 8,
-            place: 0,
-        },
-        Statistic::Overflow => Refusal {
-            number: 9,
-            place: 0,
-        },
+impl From<FailedPivot> for TestError {
+    ghost from_gives = { λ why e. e ≡ error.Pivot why };
+
+    fn from(why: FailedPivot) -> TestError {
+        TestError::Pivot(why)
     }
 }
 
-// The statistic, +0 where there is none.
-pub fn statistic_in(found: Statistic) -> f64
-    ensures { result ≡ value found }
-{
-    match found {
-        Statistic::Value(d) => d,
-        Statistic::Empty => 0.0,
-        Statistic::Single => 0.0,
-        Statistic::NotFinite(_) => 0.0,
-        Statistic::ZeroSum => 0.0,
-        Statistic::Overflow => 0.0,
+impl From<SpectrumError> for TestError {
+    ghost from_gives = { λ why e. e ≡ spectrum_error why };
+
+    fn from(why: SpectrumError) -> TestError {
+        match why {
+            SpectrumError::MatrixNotFinite => TestError::NotFinite(Stage::Product),
+            SpectrumError::NumberNotFinite => TestError::NotFinite(Stage::Eigenvalues),
+        }
     }
 }
 
-// Refusal 10.
-pub fn of_rows(size: SheetSize) -> Refusal
-    ensures { result ≡ rows_refusal size.rows size.columns }
+impl From<imhof::NotFinite> for TestError {
+    ghost from_gives = { λ _ e. e ≡ error.NotFinite Integral };
+
+    fn from(_why: imhof::NotFinite) -> TestError {
+        TestError::NotFinite(Stage::Integral)
+    }
+}
+
+impl From<RecordsError> for TestError {
+    ghost from_gives = { λ why e. e ≡ records_error why };
+
+    fn from(why: RecordsError) -> TestError {
+        match why {
+            RecordsError::RoomShort => TestError::PartRoom,
+            RecordsError::NotFinite => TestError::NotFinite(Stage::Integral),
+        }
+    }
+}
+
+impl From<LawError> for TestError {
+    ghost from_gives = { λ why e. e ≡ law_error why };
+
+    fn from(why: LawError) -> TestError {
+        match why {
+            LawError::NotFinite => TestError::NotFinite(Stage::Law),
+            LawError::NotSpread => TestError::NotSpread,
+        }
+    }
+}
+
+// Document 01's table.
+impl From<TestError> for Refusal {
+    ghost from_gives = { λ why refusal. refusal ≡ refusal_of why };
+
+    fn from(why: TestError) -> Refusal {
+        let (number, place) = match why {
+            TestError::Columns(ColumnsError::NoColumn) => (1, 0),
+            TestError::Columns(ColumnsError::RowsOver) => (2, 0),
+            TestError::Columns(ColumnsError::ColumnsOver) => (2, 1),
+            TestError::Columns(ColumnsError::WrongLength) => (3, 0),
+            TestError::Columns(ColumnsError::NotFinite(t)) => (4, t),
+            TestError::Statistic(StatisticError::Empty) => (5, 0),
+            TestError::Statistic(StatisticError::Single) => (6, 0),
+            TestError::Statistic(StatisticError::NotFinite(t)) => (7, t),
+            TestError::Statistic(StatisticError::ZeroSum) => (8, 0),
+            TestError::Statistic(StatisticError::Overflow) => (9, 0),
+            TestError::FewRows => (10, 0),
+            TestError::Pivot(FailedPivot(i)) => (11, i),
+            TestError::MatrixRoom => (12, 1),
+            TestError::PartRoom => (12, 2),
+            TestError::NotFinite(Stage::Inverse) => (13, 1),
+            TestError::NotFinite(Stage::Product) => (13, 2),
+            TestError::NotFinite(Stage::Eigenvalues) => (13, 3),
+            TestError::NotFinite(Stage::Integral) => (13, 4),
+            TestError::NotFinite(Stage::Law) => (13, 5),
+            TestError::NotSpread => (14, 0),
+        };
+        Refusal { number, place }
+    }
+}
+
+// More rows than columns.
+pub fn check_rows(size: SheetSize) -> Result<(), TestError>
+    ensures { refusal_in result ≡ rows_refusal size.rows size.columns }
 {
     if columns::too_few_rows(size) {
-        return Refusal {
-            number: 10,
-            place: 0,
-        };
+        return Err(TestError::FewRows);
     }
-    Refusal {
-        number: 0,
-        place: 0,
-    }
+    Ok(())
 }
 
-// Refusal 11.
-pub fn of_pivots(found: Pivots) -> Refusal
-    ensures { result ≡ pivots_refusal found }
-{
-    match found {
-        Pivots::Hold => Refusal {
-            number: 0,
-            place: 0,
-        },
-        Pivots::Fails(i) => Refusal {
-            number: 11,
-            place: i,
-        },
-    }
-}
-
-// Refusal 12: of matrix room, and of part room.
-pub fn no_matrix() -> Refusal
-    ensures { result ≡ no_matrix }
-{
-    Refusal {
-        number: 12,
-        place: 1,
-    }
-}
-
-pub fn no_parts() -> Refusal
-    ensures { result ≡ no_parts }
-{
-    Refusal {
-        number: 12,
-        place: 2,
-    }
-}
-
-// The same for n rows and rooms of these lengths.
-pub fn of_rooms(n: usize, matrix: usize, parts: usize) -> Refusal
-    requires { n ≤ max_rows }
-    ensures { result ≡ room_refusal (room_of n) matrix parts }
-{
-    if matrix < matrix_room(n) {
-        return no_matrix();
-    }
-    if parts < imhof::PART_ROOM {
-        return no_parts();
-    }
-    Refusal {
-        number: 0,
-        place: 0,
-    }
-}
-
-// Refusal 13 at a stage.
-pub fn not_finite(stage: usize) -> Refusal
-    ensures { result ≡ not_finite stage }
-{
-    Refusal {
-        number: 13,
-        place: stage,
-    }
-}
-
-// The same for the inverse, where an entry is not finite.
-pub fn of_inverse(inverse: Matrix, k: usize) -> Refusal
+// An inverse of k columns whose entries are finite.
+pub fn check_inverse(inverse: Matrix, k: usize) -> Result<Matrix, TestError>
     requires { k ≤ max_columns }
-    ensures { result ≡ inverse_refusal k inverse }
+    ensures refusal { refusal_in result ≡ inverse_refusal k inverse }
+    ensures same { IfOk result (λ found. found ≡ inverse) }
 {
     if design::inverse_is_finite(inverse, k) {
-        return Refusal {
-            number: 0,
-            place: 0,
-        };
+        return Ok(inverse);
     }
-    not_finite(INVERSE)
+    Err(TestError::NotFinite(Stage::Inverse))
 }
 
-// The same for an integral; and over a lent list of records refusal 12 besides.
-pub fn of_quadrature(found: Quadrature) -> Refusal
-    ensures { result ≡ quadrature_refusal found }
+// Rooms of these lengths that suffice for n rows.
+pub fn check_rooms(n: usize, matrix: usize, parts: usize) -> Result<(), TestError>
+    requires { n ≤ max_rows }
+    ensures { result ≡ rooms_of (room_of n) matrix parts }
 {
-    match found {
-        Quadrature::Sum(_) => Refusal {
-            number: 0,
-            place: 0,
-        },
-        Quadrature::Broken => not_finite(INTEGRAL),
+    if matrix < matrix_room(n) {
+        return Err(TestError::MatrixRoom);
     }
-}
-
-pub fn of_records(found: Answer) -> Refusal
-    ensures { result ≡ records_refusal found }
-{
-    match found {
-        Answer::RoomShort => no_parts(),
-        Answer::Found(q) => of_quadrature(q),
+    if parts < imhof::PART_ROOM {
+        return Err(TestError::PartRoom);
     }
-}
-
-// Refusal 14.
-pub fn not_spread() -> Refusal
-    ensures { result ≡ not_spread }
-{
-    Refusal {
-        number: 14,
-        place: 0,
-    }
+    Ok(())
 }

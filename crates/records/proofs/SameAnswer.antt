@@ -17,7 +17,8 @@ use Rattle.floats.specs.Sums.{sum_run}
 use Rattle.floats.specs.Count.{no_work, one_bisection}
 use Rattle.floats.specs.declared.tally.Tally.{Tally}
 use Rattle.imhof.specs.declared.Part.{Part}
-use Rattle.imhof.specs.declared.Quadrature.TheVariants.{Sum}
+use Rattle.std.specs.Prelude.{Ok}
+use Rattle.imhof.specs.Quadrature.{Quadrature}
 use Rattle.imhof.specs.declared.Standing.TheVariants.{Open, Settled, Refused}
 use Rattle.imhof.specs.Imhof.{integral_of, quadrature_of}
 use Rattle.imhof.specs.Rule.{gk15_of}
@@ -124,9 +125,9 @@ module _ (f : Float → Float) (a b : Float) (ys : List Part) (room : most_parts
     greatest-is = look-greatest (R k) n inside (omega arith)
 
     -- the sums of the look, in a course that says them
-    told : (c : Course) (st : Stage) → c ≡ course_of false false l l.greatest l.greatest t → quadrature_of st ≡ Sum (integral_of (stage ps t Open)) → found_of c ≡ quadrature_of st
+    told : (c : Course) (st : Stage) → c ≡ course_of false false l l.greatest l.greatest t → quadrature_of st ≡ Ok (integral_of (stage ps t Open)) → found_of c ≡ quadrature_of st
     told c st e q =
-        ap found_of e ∙ ap₂ (λ (x y : Float). Sum (record { value = x; error = y; tally = t })) value-is error-is ∙ sym q
+        ap found_of e ∙ ap₂ {C = Quadrature} (λ (x y : Float). Ok (record { value = x; error = y; tally = t })) value-is error-is ∙ sym q
 
     -- no room for another bisection
     pub at-full : most_parts ≤ n → found_of (decided f a b ys k) ≡ quadrature_of (S k)

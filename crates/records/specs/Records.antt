@@ -1,6 +1,6 @@
 -- The quadrature over a list of part records, turn by turn: what a look finds, what a turn decides, and what it does to the list.
 -- Definitions only. Assumes nothing.
-use Rattle.std.specs.Prelude.{ℕ, suc, ◌-◌, Bool, true, false, ◌&&◌, cond, List, leb, set, Float}
+use Rattle.std.specs.Prelude.{ℕ, suc, ◌-◌, Bool, true, false, ◌&&◌, cond, List, leb, set, Float, Ok}
 use Rattle.std.specs.Float.Ieee.{le}
 use Rattle.floats.specs.Words.{◌⊕◌, plus_zero, minus_zero}
 use Rattle.floats.specs.Signs.{before}
@@ -8,8 +8,7 @@ use Rattle.floats.specs.Turns.{turns}
 use Rattle.floats.specs.Count.{no_work, one_bisection}
 use Rattle.floats.specs.declared.tally.Tally.{Tally}
 use Rattle.imhof.specs.declared.Part.{Part}
-use Rattle.imhof.specs.declared.Quadrature.{Quadrature}
-use Rattle.imhof.specs.declared.Quadrature.TheVariants.{Sum, Broken}
+use Rattle.imhof.specs.Quadrature.{Quadrature, broken}
 use Rattle.imhof.specs.Rule.{gk15_of}
 use Rattle.imhof.specs.Parts.{most_parts, part_at, finite_part, left_half, right_half, tolerance, one_rule}
 use Rattle.records.specs.declared.course.Look.{Look}
@@ -96,8 +95,8 @@ work_after k f a b ps = turns k (λ t w. next_work f (suc t) w) (first_work (sta
 
 -- the integral that a closed course stands for; none where a number was not finite
 abbrev pub found_by : Bool → Course → Quadrature
-found_by true c = Broken
-found_by false c = Sum (record { value = c.value; error = c.error; tally = c.tally })
+found_by true c = broken
+found_by false c = Ok (record { value = c.value; error = c.error; tally = c.tally })
 
 abbrev pub found_of : Course → Quadrature
 found_of c = found_by c.broken c

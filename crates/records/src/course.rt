@@ -4,13 +4,11 @@ ghost use Rattle.std.specs.Prelude.{◌≡◌, false, ◌+◌, ◌*◌, ◌<◌,
 ghost use Rattle.imhof.specs.Integrand.{integrand_of};
 ghost use Rattle.imhof.specs.Rule.{rule_size};
 ghost use Rattle.records.specs.Records.{unseen_of, noted_of, course_of, start_of, looked_by, turned_of, zero_part, found_of};
-ghost use Rattle.records.specs.declared.Answer.TheVariants.{RoomShort, Found};
 
-use super::Answer;
 use floats::tally::Tally;
-use imhof::adaptive::{TOLERANCE, are_finite, is_finite_part, with_bisection};
+use imhof::adaptive::{TOLERANCE, with_bisection};
 use imhof::rule::{RULE_SIZE, bisect, gk15};
-use imhof::{Integral, MOST_PARTS, Part, Quadrature};
+use imhof::{Integral, MOST_PARTS, NotFinite, Part};
 
 // What a look at the records found: the sums of their values and of their errors, first to last, and the place and the record of
 // the greatest error, the last among equals.
@@ -91,7 +89,7 @@ pub fn start(weights: &[f64], lo: f64, hi: f64) -> Course
     ensures { result ≡ start_of (integrand_of weights.now) lo hi }
 {
     let whole = gk15(weights, lo, hi);
-    if is_finite_part(whole) {
+    if whole.is_finite() {
         return formed(
             true,
             false,
@@ -111,7 +109,7 @@ fn halved(weights: &[f64], l: Look, tally: Tally) -> Course
 {
     let g = l.greatest;
     let h = bisect(weights, g);
-    if !are_finite(h) {
+    if !h.are_finite() {
         return formed(false, true, l, g, g, tally);
     }
     formed(true, false, l, h.left, h.right, with_bisection(tally))
@@ -146,24 +144,17 @@ pub fn zero() -> Part
     }
 }
 
-// The answer where the list is too short.
-pub fn room_short() -> Answer
-    ensures { result ≡ RoomShort }
-{
-    Answer::RoomShort
-}
-
-// The answer that a closed course stands for.
-pub fn found(c: Course) -> Answer
-    ensures { result ≡ Found (found_of c) }
+// The integral that a closed course stands for.
+pub fn found(c: Course) -> Result<Integral, NotFinite>
+    ensures { result ≡ found_of c }
 {
     if c.broken {
-        return Answer::Found(Quadrature::Broken);
+        return Err(NotFinite);
     }
     let tally = c.tally;
-    Answer::Found(Quadrature::Sum(Integral {
+    Ok(Integral {
         value: c.value,
         error: c.error,
         tally,
-    }))
+    })
 }

@@ -7,20 +7,29 @@ ghost use Rattle.imhof.specs.Integrand.{integrand_of};
 ghost use Rattle.imhof.specs.Imhof.{quadrature_of};
 ghost use Rattle.imhof.specs.Parts.{most_bisections, most_parts, stage_after};
 ghost use Rattle.records.specs.Records.{zero_part, look_of, split_of, work_after};
-ghost use Rattle.records.specs.Answer.{answer_of, cleared_of};
-ghost use Rattle.records.specs.declared.Answer.TheVariants.{Found};
+ghost use Rattle.records.specs.Answer.{answer_of, told_of, cleared_of};
+ghost use Rattle.records.specs.declared.RecordsError.TheVariants.{NotFinite};
 
-use course::{Course, Look, found, noted, room_short, start, turned, unseen, zero};
-use imhof::{MOST_PARTS, Part, Quadrature};
+use course::{Course, Look, found, noted, start, turned, unseen, zero};
+use imhof::{Integral, MOST_PARTS, NotFinite, Part};
 
 mod course;
 
-#[derive(Clone, Copy)]
-pub enum Answer {
+// Why there is no integral.
+#[derive(Clone, Copy, Debug, PartialEq, Eq)]
+pub enum RecordsError {
     // The list is shorter than MOST_PARTS records: nothing was worked out.
     RoomShort,
-    // The four-run form's answer: the sums and the work, or that a number was not finite.
-    Found(Quadrature),
+    // A number was not finite on the way.
+    NotFinite,
+}
+
+impl From<NotFinite> for RecordsError {
+    ghost from_gives = { λ _ e. e ≡ NotFinite };
+
+    fn from(_e: NotFinite) -> RecordsError {
+        RecordsError::NotFinite
+    }
 }
 
 // One look at the first n records.
@@ -80,20 +89,20 @@ fn refine(weights: &[f64], lo: f64, hi: f64, parts: &mut [Part]) -> Course
 }
 
 // The integral from lo to hi over a lent list of records. Past the room check its first MOST_PARTS records end as zeros, and the others stay.
-pub fn quadrature(weights: &[f64], lo: f64, hi: f64, parts: &mut [Part]) -> Answer
+pub fn quadrature(weights: &[f64], lo: f64, hi: f64, parts: &mut [Part]) -> Result<Integral, RecordsError>
     ensures { (result ≡ answer_of (length parts.old) (quadrature_of (stage_after most_bisections (integrand_of weights.now) lo hi))) × (parts.new ≡ cleared_of parts.old) }
 {
     if parts.len() < MOST_PARTS {
-        return room_short();
+        return Err(RecordsError::RoomShort);
     }
     let c = refine(weights, lo, hi, parts);
     clear(parts);
-    found(c)
+    Ok(found(c)?)
 }
 
 // The same over a list of its own: whoever calls this one lends no records.
-pub fn integrate(weights: &[f64], lo: f64, hi: f64) -> Answer
-    ensures { result ≡ Found (quadrature_of (stage_after most_bisections (integrand_of weights.now) lo hi)) }
+pub fn integrate(weights: &[f64], lo: f64, hi: f64) -> Result<Integral, RecordsError>
+    ensures { result ≡ told_of (quadrature_of (stage_after most_bisections (integrand_of weights.now) lo hi)) }
 {
     let z = zero();
     let mut parts = [z; MOST_PARTS];

@@ -9,15 +9,14 @@ use Rattle.sheet.specs.Contents.{entry_of, position_of, residuals_of, columns_of
 use Rattle.sheet.specs.Reading.{read_file, check_of, number_of, index_of, next_of}
 use Rattle.sheet.specs.declared.file.Entry.{Entry}
 use Rattle.sheet.specs.declared.file.FileRefusal.{FileRefusal}
-use Rattle.sheet.specs.declared.file.FileCheck.{FileCheck}
-use Rattle.sheet.specs.declared.file.Next.{Next}
+use Rattle.std.specs.Prelude.{Option, Result}
 use Rattle.sheet.specs.declared.reader.Reader.{Reader}
 
 same : {A : Type 0} {x r s : A} → r ≡ x → s ≡ x → r ≡ s
 same p q = p ∙ sym q
 
 module _ (file : List ℕ) where
-  pub one-check : (r s : FileCheck) → r ≡ check_of (read_file file) → s ≡ check_of (read_file file) → r ≡ s
+  pub one-check : (r s : Result ℕ FileRefusal) → r ≡ check_of (read_file file) → s ≡ check_of (read_file file) → r ≡ s
   one-check r s p q = same p q
 
   -- `entry_at`
@@ -29,7 +28,7 @@ module _ (file : List ℕ) where
   one-position e t r s p q = same p q
 
   -- `next_at`, `Reader::entry` and `read_entry`
-  pub one-next : (i : ℕ) (r s : Next) → r ≡ next_of file i → s ≡ next_of file i → r ≡ s
+  pub one-next : (i : ℕ) (r s : Option Entry) → r ≡ next_of file i → s ≡ next_of file i → r ≡ s
   one-next i r s p q = same p q
 
   -- what `read_residuals` and `read_columns` give, and the run that they leave behind

@@ -11,17 +11,20 @@ use native.Mathlib.Omega.{arith}
 use Rattle.sheet.specs.Reading.{sheets, refused, due_at, meets, refusals_from, first_met, entry_fault}
 use Rattle.sheet.specs.declared.file.FileRefusal.{FileRefusal}
 use Rattle.sheet.specs.declared.file.FileRefusal.TheVariants.{Codes, Offset, PastEnd, NotRising, LeftOver}
-use Rattle.sheet.specs.declared.file.Fault.TheVariants.{Met, Sound}
+use Rattle.std.specs.Prelude.{Ok, Err, Result, ⊤}
 
-apart : {f : FileRefusal} → Sound ≡ Met f → ⊥
+abbrev sound : Result ⊤ FileRefusal
+sound = Ok tt
+
+apart : {f : FileRefusal} → sound ≡ Err f → ⊥
 apart q = let z : ◌≡◌ {A = ℕ} 0 1 = cc in omega arith
 
 module _ (file : List ℕ) (i left : ℕ) where
-  pub met-decides : {f : FileRefusal} → entry_fault file i ≡ Met f → first_met file (refusals_from i (suc left)) ≡ refused f
+  pub met-decides : {f : FileRefusal} → entry_fault file i ≡ Err f → first_met file (refusals_from i (suc left)) ≡ refused f
   unfolding refusals_from first_met
   met-decides {f} h = go (meets file (Codes i)) (meets file (Offset i)) (meets file (PastEnd i)) (meets file (NotRising i)) h
     where
-      go : (a b c d : Bool) → cond a (Met (Codes i)) (cond b (Met (Offset i)) (cond c (Met (PastEnd i)) (cond d (Met (NotRising i)) Sound))) ≡ Met f
+      go : (a b c d : Bool) → cond a (Err (Codes i)) (cond b (Err (Offset i)) (cond c (Err (PastEnd i)) (cond d (Err (NotRising i)) sound))) ≡ Err f
           → cond a (refused (Codes i)) (cond b (refused (Offset i)) (cond c (refused (PastEnd i)) (cond d (refused (NotRising i)) (first_met file (refusals_from (i + 1) left))))) ≡ refused f
       go true b c d h = cc
       go false true c d h = cc
@@ -29,11 +32,11 @@ module _ (file : List ℕ) (i left : ℕ) where
       go false false false true h = cc
       go false false false false h = absurd (apart h)
 
-  pub sound-passes : entry_fault file i ≡ Sound → first_met file (refusals_from i (suc left)) ≡ first_met file (refusals_from (i + 1) left)
+  pub sound-passes : entry_fault file i ≡ sound → first_met file (refusals_from i (suc left)) ≡ first_met file (refusals_from (i + 1) left)
   unfolding refusals_from first_met
   sound-passes h = go (meets file (Codes i)) (meets file (Offset i)) (meets file (PastEnd i)) (meets file (NotRising i)) h
     where
-      go : (a b c d : Bool) → cond a (Met (Codes i)) (cond b (Met (Offset i)) (cond c (Met (PastEnd i)) (cond d (Met (NotRising i)) Sound))) ≡ Sound
+      go : (a b c d : Bool) → cond a (Err (Codes i)) (cond b (Err (Offset i)) (cond c (Err (PastEnd i)) (cond d (Err (NotRising i)) sound))) ≡ sound
           → cond a (refused (Codes i)) (cond b (refused (Offset i)) (cond c (refused (PastEnd i)) (cond d (refused (NotRising i)) (first_met file (refusals_from (i + 1) left))))) ≡ first_met file (refusals_from (i + 1) left)
       go true b c d h = absurd (apart (sym h))
       go false true c d h = absurd (apart (sym h))

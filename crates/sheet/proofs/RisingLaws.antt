@@ -1,6 +1,6 @@
 -- What `rises` says: it is true exactly where each number is greater than the one before it, and false exactly where one is not; numbers that rise rise from any of them to any later one.
 -- Assumes nothing.
-use Prim.Native.Nat.{ℕ, zero, suc, ◌+◌, ◌-◌, ◌<◌}
+use Prim.Native.Nat.{ℕ, zero, suc, ◌+◌, ◌-◌, ◌≤◌, ◌<◌}
 use native.Mathlib.Nat.{eq-or-lt_of_le, not-suc-le-zero}
 use native.Mathlib.Numerals.{add-one}
 use native.Mathlib.Omega.{arith}
@@ -11,6 +11,11 @@ use borrow.Author.Tests.{leb-true, leb-false}
 use Rattle.std.specs.Prelude.{Option, Some, None}
 use Rattle.floats.specs.Search.{first_where}
 use Rattle.floats.proofs.FirstLaws.{none-at, found-holds}
+use lib.ListN.{length}
+use Rattle.std.specs.Prelude.{not}
+use Rattle.std.specs.Bool.{MatchBool}
+use Rattle.std.specs.List.{range_with_len, AllWithin, HoldsAt}
+use Rattle.std.proofs.lemmas.List.FromFn.{length-range_with_len, get_or-range_with_len}
 use Rattle.sheet.specs.Rising.{nowhere, falls_at, rises, Rising, Falls}
 
 module _ (f : ℕ → ℕ) (n : ℕ) where
@@ -44,6 +49,24 @@ module _ (f : ℕ → ℕ) (n : ℕ) where
       go : (b : Bool) → rises f n ≡ b → b ≡ false
       go true e = absurd (not-both (rises-each e) w)
       go false e = refl
+
+  -- what `any` tells of the numbers 1, 2, .., n - 1, each asked whether f of it is not above f of the one before it
+  pub any-falls : (r : Bool) → MatchBool r ((k : ℕ) × (k < length (range_with_len 1 (n - 1))) × HoldsAt (λ t. f t ≤ f (t - 1)) (range_with_len 1 (n - 1)) k)
+      (AllWithin (λ t. f (t - 1) < f t) (range_with_len 1 (n - 1)) 0 (length (range_with_len 1 (n - 1)))) → r ≡ not (rises f n)
+  any-falls true w =
+      let k = w.0 in
+      let l : k < n - 1 = rw length-range_with_len at w.1 in
+      let h : f (1 + k) ≤ f (1 + k - 1) = rw (get_or-range_with_len 1 (n - 1) k 0 l) at (w.2 0) in
+      let a : 1 + k ≡ k + 1 = omega arith in
+      let b : 1 + k - 1 ≡ k = omega arith in
+      rw (fall-rises (record { place = k; pair = omega arith; falls = rw (b, a) at h }))
+  any-falls false w = rw (each-rises (λ t l.
+      let m : t < n - 1 = omega arith in
+      let k : t < length (range_with_len 1 (n - 1)) = rw length-range_with_len m in
+      let h : f (1 + t - 1) < f (1 + t) = rw (get_or-range_with_len 1 (n - 1) t 0 m) at (w t 0 (omega arith) k) in
+      let a : 1 + t ≡ t + 1 = omega arith in
+      let b : 1 + t - 1 ≡ t = omega arith in
+      rw (b, a) at h))
 
   -- from any of them to any later one
   pub throughout : Rising f n → (s t : ℕ) → s < t → t < n → f s < f t

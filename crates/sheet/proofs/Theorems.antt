@@ -24,9 +24,7 @@ use Rattle.sheet.specs.Tiling.{Known, Tiled, NoneMet, MetFirst}
 use Rattle.sheet.specs.declared.file.Entry.{Entry}
 use Rattle.sheet.specs.declared.file.FileRefusal.{FileRefusal}
 use Rattle.sheet.specs.declared.file.FileRefusal.TheVariants.{Codes, Offset, PastEnd, NotRising, LeftOver}
-use Rattle.sheet.specs.declared.file.FileCheck.TheVariants.{Accepted, Refused}
-use Rattle.sheet.specs.declared.file.Next.{Next}
-use Rattle.sheet.specs.declared.file.Next.TheVariants.{Sheet, End}
+use Rattle.std.specs.Prelude.{Option, Some, None, Ok, Err}
 use Rattle.sheet.proofs.RisingLaws.{rises-each, each-rises}
 
 neither : {f : FileRefusal} {es : List Entry} → refused f ≡ sheets es → ⊥
@@ -176,31 +174,31 @@ module _ (file : List ℕ) where
       )
 
 -- `check_file` accepts a file with the count n exactly where n entries tile it
-pub accepted-tiled : (file : List ℕ) (n : ℕ) → check_of (read_file file) ≡ Accepted n → Tiled file n
+pub accepted-tiled : (file : List ℕ) (n : ℕ) → check_of (read_file file) ≡ Ok n → Tiled file n
 unfolding read_file
 accepted-tiled file n h = go (first_met file (refusals (count_of file))) refl h
   where
-    go : (r : Reading) → first_met file (refusals (count_of file)) ≡ r → check_of r ≡ Accepted n → Tiled file n
+    go : (r : Reading) → first_met file (refusals (count_of file)) ≡ r → check_of r ≡ Ok n → Tiled file n
     go (sheets es) e h =
         let r = all-passed file (refusals (count_of file)) e in
         let k : count_of file ≡ n = sym (ap length r.1 ∙ length-table (entry_of file) (count_of file)) ∙ cc in
         rw k at (tiled-by file r.0)
     go (refused f) e h = absurd (let z : ◌≡◌ {A = ℕ} 0 1 = cc in omega arith)
 
-pub tiled-accepted : (file : List ℕ) (n : ℕ) → Tiled file n → check_of (read_file file) ≡ Accepted n
+pub tiled-accepted : (file : List ℕ) (n : ℕ) → Tiled file n → check_of (read_file file) ≡ Ok n
 unfolding read_file
-tiled-accepted file n t = ap check_of (passes-all file (refusals (count_of file)) (none-by file t)) ∙ ap Accepted (length-table (entry_of file) (count_of file) ∙ sym t.count)
+tiled-accepted file n t = ap check_of (passes-all file (refusals (count_of file)) (none-by file t)) ∙ ap Ok (length-table (entry_of file) (count_of file) ∙ sym t.count)
 
 -- a refusal is given exactly where its condition holds and none before it in the order does
-pub refused-first : (file : List ℕ) (f : FileRefusal) → check_of (read_file file) ≡ Refused f → MetFirst file (refusals (count_of file)) f
+pub refused-first : (file : List ℕ) (f : FileRefusal) → check_of (read_file file) ≡ Err f → MetFirst file (refusals (count_of file)) f
 unfolding read_file
 refused-first file f h = go (first_met file (refusals (count_of file))) refl h
   where
-    go : (r : Reading) → first_met file (refusals (count_of file)) ≡ r → check_of r ≡ Refused f → MetFirst file (refusals (count_of file)) f
+    go : (r : Reading) → first_met file (refusals (count_of file)) ≡ r → check_of r ≡ Err f → MetFirst file (refusals (count_of file)) f
     go (sheets es) e h = absurd (let z : ◌≡◌ {A = ℕ} 0 1 = cc in omega arith)
     go (refused g) e h = let k : g ≡ f = cc in found_at file (refusals (count_of file)) (e ∙ ap refused k)
 
-pub first-refused : (file : List ℕ) (f : FileRefusal) → MetFirst file (refusals (count_of file)) f → check_of (read_file file) ≡ Refused f
+pub first-refused : (file : List ℕ) (f : FileRefusal) → MetFirst file (refusals (count_of file)) f → check_of (read_file file) ≡ Err f
 unfolding read_file
 first-refused file f m = ap check_of (ap (first_met file) m.order ∙ stops_at file m.before m.after m.none m.met)
 
@@ -212,13 +210,13 @@ unfolding read_file
 tiled-sheets file n t = passes-all file (refusals (count_of file)) (none-by file t) ∙ rw t.count
 
 -- a reader finds the entries in order, and then the end
-pub reads-entry : (file : List ℕ) (n : ℕ) → Tiled file n → (i : ℕ) → i < n → next_of file i ≡ Sheet (entry_of file i)
+pub reads-entry : (file : List ℕ) (n : ℕ) → Tiled file n → (i : ℕ) → i < n → next_of file i ≡ Some (entry_of file i)
 reads-entry file n t i l =
     let c = t.count in
     let p : entry_place (i + 1) ≤ length file = omega (arith, t.contents) in
     rw (← c, lt-ltb _ _ l, le-leb _ _ p)
 
-pub reads_end : (file : List ℕ) (n : ℕ) → Tiled file n → (i : ℕ) → n ≤ i → next_of file i ≡ End
+pub reads_end : (file : List ℕ) (n : ℕ) → Tiled file n → (i : ℕ) → n ≤ i → next_of file i ≡ None
 reads_end file n t i l = let c = t.count in rw (← c, le-ltb _ _ l)
 
 -- a reader one further is at the number after
@@ -233,14 +231,14 @@ body-fits file n t i l = go (numbers_start (entry_of file i)) (entry_of file i).
     go a r k h = let m : r * (k + 1) ≡ r * k + r = rw add-one (mul-suc r k) in let b = t.most in (omega arith, omega arith)
 
 -- what a caller of `read_entry` learns of the entry that it is given: which it is, that its body lies within the file, and that the runs hold it
-pub entry_read : (file : List ℕ) (n : ℕ) → Tiled file n → (i : ℕ) → i < n → {r : Next} {e : Entry} → r ≡ next_of file i → r ≡ Sheet e
+pub entry_read : (file : List ℕ) (n : ℕ) → Tiled file n → (i : ℕ) → i < n → {r : Option Entry} {e : Entry} → r ≡ next_of file i → r ≡ Some e
     → (e ≡ entry_of file i) × (body_end e ≤ length file) × (e.rows ≤ most_numbers) × (e.rows * e.columns ≤ most_numbers)
 entry_read file n t i l {r} {e} p q =
     let k : e ≡ entry_of file i = same-sheet (sym q ∙ p ∙ reads-entry file n t i l) in
     let b = body-fits file n t i l in
     (k, rw k (t.within i l), rw k b.0, rw k b.1)
   where
-    same-sheet : {e e' : Entry} → Sheet e ≡ Sheet e' → e ≡ e'
+    same-sheet : {e e' : Entry} → Some e ≡ Some e' → e ≡ e'
     same-sheet h = cc
 
 -- residual t, and row t of column c, by their places in the body

@@ -1,18 +1,13 @@
 -- A whole file is read into its entries, or refused: file refusals 1 to 7 of document 01 and 8 of document 02 (W-202), each with its condition, in the order in which they are tried.
 -- Places and sizes are those of specs/Contents.antt. Definitions only. Assumes nothing.
-use Rattle.std.specs.Prelude.{ℕ, zero, suc, ◌+◌, ◌^◌, Bool, not, cond, ◌&&◌, ◌||◌, List, [], ◌∷◌, eqb, ltb, leb, length}
+use Rattle.std.specs.Prelude.{ℕ, zero, suc, ◌+◌, ◌^◌, Bool, not, cond, ◌&&◌, ◌||◌, List, [], ◌∷◌, eqb, ltb, leb, length, is_some, ◌≡◌, Option, Some, None, Result, Ok, Err, ⊤}
 use Rattle.floats.specs.Tables.{table}
 use Rattle.sheet.specs.Contents.{largest_file, most_entries, count_of, entry_place, entry_of, spare_of, body_start, body_end, position_of}
 use Rattle.sheet.specs.Rising.{rises}
 use Rattle.sheet.specs.declared.file.Entry.{Entry}
+use Rattle.sheet.specs.declared.reader.Reader.{Reader}
 use Rattle.sheet.specs.declared.file.FileRefusal.{FileRefusal}
 use Rattle.sheet.specs.declared.file.FileRefusal.TheVariants.{Size, Count, ContentsCut, Codes, Offset, PastEnd, NotRising, LeftOver}
-use Rattle.sheet.specs.declared.file.FileCheck.{FileCheck}
-use Rattle.sheet.specs.declared.file.FileCheck.TheVariants.{Accepted, Refused}
-use Rattle.sheet.specs.declared.file.Next.{Next}
-use Rattle.sheet.specs.declared.file.Next.TheVariants.{Sheet, End}
-use Rattle.sheet.specs.declared.file.Fault.{Fault}
-use Rattle.sheet.specs.declared.file.Fault.TheVariants.{Met, Sound}
 
 -- the number of a file refusal, and the entry's index, 0 where none
 abbrev pub number_of : FileRefusal → ℕ
@@ -77,22 +72,26 @@ unfoldable pub read_file : List ℕ → Reading
 read_file file = first_met file (refusals (count_of file))
 
 -- accepted with the count of entries, or refused
-abbrev pub check_of : Reading → FileCheck
-check_of (sheets es) = Accepted (length es)
-check_of (refused f) = Refused f
+abbrev pub check_of : Reading → Result ℕ FileRefusal
+check_of (sheets es) = Ok (length es)
+check_of (refused f) = Err f
 
 -- what is wrong with entry i, if anything
-abbrev pub entry_fault : List ℕ → ℕ → Fault
+abbrev pub entry_fault : List ℕ → ℕ → Result ⊤ FileRefusal
 entry_fault file i =
-    cond (meets file (Codes i)) (Met (Codes i))
-    (cond (meets file (Offset i)) (Met (Offset i))
-    (cond (meets file (PastEnd i)) (Met (PastEnd i))
-    (cond (meets file (NotRising i)) (Met (NotRising i)) Sound)))
+    cond (meets file (Codes i)) (Err (Codes i))
+    (cond (meets file (Offset i)) (Err (Offset i))
+    (cond (meets file (PastEnd i)) (Err (PastEnd i))
+    (cond (meets file (NotRising i)) (Err (NotRising i)) (Ok tt))))
 
 -- what a reader whose next entry is i finds: that entry, where the contents have it
-abbrev pub next_of : List ℕ → ℕ → Next
-next_of file i = cond (ltb i (count_of file) && leb (entry_place (i + 1)) (length file)) (Sheet (entry_of file i)) End
+abbrev pub next_of : List ℕ → ℕ → Option Entry
+next_of file i = cond (ltb i (count_of file) && leb (entry_place (i + 1)) (length file)) (Some (entry_of file i)) None
 
 -- the number behind i, of those below 2^64; behind the last there is none, and it stays
 abbrev pub one_further : ℕ → ℕ
 one_further i = cond (ltb (i + 1) (2 ^ 64)) (i + 1) i
+
+-- a reader at s that is asked for its next entry gives r and is then at t: what stands at its number, and one further; at the end it stays
+abbrev pub NextGives : Reader → Option Entry → Reader → Type 0
+NextGives s r t = (r ≡ next_of s.file.now s.next) × (t.file ≡ s.file) × (t.next ≡ cond (is_some r) (one_further s.next) s.next)

@@ -30,8 +30,31 @@ pub struct Entry {
     pub positions: u8,
 }
 
+impl Entry {
+    // Where its body begins.
+    fn body_start(self) -> usize
+        ensures { result ≡ body_start self }
+    {
+        self.offset as usize
+    }
+
+    // Where the body's numbers begin, behind its positions: no more than 2^32 + 8 · 65,535 · 255.
+    fn numbers_start(self) -> usize
+        ensures { result ≡ numbers_start self }
+    {
+        self.body_start() + 8 * (self.rows as usize * self.positions as usize)
+    }
+
+    // Where it says that its body ends: no more than 8 · 65,535 · 65,536 further on.
+    fn body_end(self) -> usize
+        ensures { result ≡ body_end self }
+    {
+        self.numbers_start() + 8 * (self.rows as usize * (self.columns as usize + 1))
+    }
+}
+
 // The file refusals in the order tried, with the entry that met 4, 5, 6 or 8.
-#[derive(Clone, Copy)]
+#[derive(Clone, Copy, Debug, PartialEq, Eq)]
 pub enum FileRefusal {
     Size,
     Count,
@@ -41,26 +64,6 @@ pub enum FileRefusal {
     PastEnd(usize),
     NotRising(usize),
     LeftOver,
-}
-
-// A file is accepted with its count of entries, or refused.
-#[derive(Clone, Copy)]
-pub enum FileCheck {
-    Accepted(usize),
-    Refused(FileRefusal),
-}
-
-// What a reader finds next.
-#[derive(Clone, Copy)]
-pub enum Next {
-    Sheet(Entry),
-    End,
-}
-
-#[derive(Clone, Copy)]
-enum Fault {
-    Met(FileRefusal),
-    Sound,
 }
 
 impl FileRefusal {
@@ -85,14 +88,14 @@ impl FileRefusal {
         ensures { result ≡ index_of self }
     {
         match self {
-            FileRefusal::Codes(i) => i,
-            FileRefusal::Offset(i) => i,
-            FileRefusal::PastEnd(i) => i,
-            FileRefusal::NotRising(i) => i,
-            FileRefusal::Size => 0,
-            FileRefusal::Count => 0,
-            FileRefusal::ContentsCut => 0,
-            FileRefusal::LeftOver => 0,
+            FileRefusal::Codes(i)
+            | FileRefusal::Offset(i)
+            | FileRefusal::PastEnd(i)
+            | FileRefusal::NotRising(i) => i,
+            FileRefusal::Size
+            | FileRefusal::Count
+            | FileRefusal::ContentsCut
+            | FileRefusal::LeftOver => 0,
         }
     }
 }
@@ -113,32 +116,11 @@ pub fn entry_at(file: &[u8], i: usize) -> Entry
     }
 }
 
-// Where an entry's body begins.
-fn body_start(e: Entry) -> usize
-    ensures { result ≡ body_start e }
-{
-    e.offset as usize
-}
-
-// Where the body's numbers begin, behind its positions: no more than 2^32 + 8 · 65,535 · 255.
-fn numbers_start(e: Entry) -> usize
-    ensures { result ≡ numbers_start e }
-{
-    body_start(e) + 8 * (e.rows as usize * e.positions as usize)
-}
-
-// Where an entry says that its body ends: no more than 8 · 65,535 · 65,536 further on.
-fn body_end(e: Entry) -> usize
-    ensures { result ≡ body_end e }
-{
-    numbers_start(e) + 8 * (e.rows as usize * (e.columns as usize + 1))
-}
-
 // Position `t` of an entry's body. Any entry and any `t` may be asked: bytes past the file's end count as 0.
 pub fn position_at(file: &[u8], e: Entry, t: usize) -> u64
     ensures { result ≡ position_of file.now e t }
 {
-    let start = body_start(e);
+    let start = e.body_start();
     if start > file.len() {
         return 0;
     }
@@ -157,19 +139,8 @@ pub fn position_at(file: &[u8], e: Entry, t: usize) -> u64
 fn not_rising(file: &[u8], e: Entry) -> bool
     ensures { result ≡ not_rising file.now e }
 {
-    if e.positions != 1 {
-        return false;
-    }
-    let rows = e.rows as usize;
-    if rows < 2 {
-        return false;
-    }
-    for t in 0..rows - 1 {
-        if position_at(file, e, t + 1) <= position_at(file, e, t) {
-            return true;
-        }
-    }
-    false
+    e.positions == 1
+        && (1..e.rows as usize).any(|t| position_at(file, e, t) <= position_at(file, e, t - 1))
 }
 
 // Whether entry `i`, which is `e`, has a code beyond 2, a positions byte beyond 1 or a spare byte that is not 0.
@@ -177,94 +148,80 @@ fn codes_wrong(file: &[u8], i: usize, e: Entry) -> bool
     requires { (entry_place (i + 1) ≤ length file.now) × (e ≡ entry_of file.now i) }
     ensures { result ≡ meets file.now (Codes i) }
 {
-    if e.alternative > 2 {
-        return true;
-    }
-    if e.choice > 2 {
-        return true;
-    }
-    if e.positions > 1 {
-        return true;
-    }
-    little_endian(file, COUNT_BYTES + ENTRY_BYTES * i + 11, 5) != 0
+    e.alternative > 2
+        || e.choice > 2
+        || e.positions > 1
+        || little_endian(file, COUNT_BYTES + ENTRY_BYTES * i + 11, 5) != 0
 }
 
 // What is wrong with entry `i`, which is `e` and whose body is due at `due`.
-fn entry_fault(file: &[u8], i: usize, e: Entry, due: usize) -> Fault
+fn entry_fault(file: &[u8], i: usize, e: Entry, due: usize) -> Result<(), FileRefusal>
     requires { (entry_place (i + 1) ≤ length file.now) × (e ≡ entry_of file.now i) × (due ≡ due_at file.now i) }
     ensures { result ≡ entry_fault file.now i }
 {
     if codes_wrong(file, i, e) {
-        return Fault::Met(FileRefusal::Codes(i));
+        return Err(FileRefusal::Codes(i));
     }
     if e.offset as usize != due {
-        return Fault::Met(FileRefusal::Offset(i));
+        return Err(FileRefusal::Offset(i));
     }
-    if body_end(e) > file.len() {
-        return Fault::Met(FileRefusal::PastEnd(i));
+    if e.body_end() > file.len() {
+        return Err(FileRefusal::PastEnd(i));
     }
     if not_rising(file, e) {
-        return Fault::Met(FileRefusal::NotRising(i));
+        return Err(FileRefusal::NotRising(i));
     }
-    Fault::Sound
+    Ok(())
 }
 
-fn check_entries(file: &[u8], count: usize) -> FileCheck
+fn check_entries(file: &[u8], count: usize) -> Result<usize, FileRefusal>
     requires { (count ≡ count_of file.now) × (entry_place count ≤ length file.now) }
     ensures { result ≡ check_of (first_met file.now (refusals_from 0 count)) }
 {
     let mut due = COUNT_BYTES + ENTRY_BYTES * count;
     for i in 0..count {
         let e = entry_at(file, i);
-        if let Fault::Met(refusal) = entry_fault(file, i, e, due) {
-            return FileCheck::Refused(refusal);
-        }
-        due = body_end(e);
+        entry_fault(file, i, e, due)?;
+        due = e.body_end();
     }
     if due != file.len() {
-        return FileCheck::Refused(FileRefusal::LeftOver);
+        return Err(FileRefusal::LeftOver);
     }
-    FileCheck::Accepted(count)
+    Ok(count)
 }
 
 // Checks a whole file, in document 01's order.
-pub fn check_file(file: &[u8]) -> FileCheck
+pub fn check_file(file: &[u8]) -> Result<usize, FileRefusal>
     ensures { result ≡ check_of (read_file file.now) }
 {
-    if file.len() < COUNT_BYTES {
-        return FileCheck::Refused(FileRefusal::Size);
-    }
-    if file.len() > LARGEST {
-        return FileCheck::Refused(FileRefusal::Size);
+    if file.len() < COUNT_BYTES || file.len() > LARGEST {
+        return Err(FileRefusal::Size);
     }
     let count = little_endian(file, 0, COUNT_BYTES) as usize;
-    if count < 1 {
-        return FileCheck::Refused(FileRefusal::Count);
-    }
-    if count > MOST_ENTRIES {
-        return FileCheck::Refused(FileRefusal::Count);
+    if count < 1 || count > MOST_ENTRIES {
+        return Err(FileRefusal::Count);
     }
     if file.len() < COUNT_BYTES + ENTRY_BYTES * count {
-        return FileCheck::Refused(FileRefusal::ContentsCut);
+        return Err(FileRefusal::ContentsCut);
     }
     check_entries(file, count)
 }
 
 // Entry `i`, where the contents have it. Any bytes may be asked; those of an accepted file give its entries in order, and then the end.
-pub fn next_at(file: &[u8], i: usize) -> Next
+pub fn next_at(file: &[u8], i: usize) -> Option<Entry>
     ensures { result ≡ next_of file.now i }
 {
     if file.len() < COUNT_BYTES {
-        return Next::End;
+        return None;
     }
     let count = little_endian(file, 0, COUNT_BYTES) as usize;
     if i >= count {
-        return Next::End;
+        return None;
     }
     if file.len() < COUNT_BYTES + ENTRY_BYTES * (i + 1) {
-        return Next::End;
+        return None;
     }
-    Next::Sheet(entry_at(file, i))
+    Some(entry_at(file, i))
 }
 
 // Number `t` of an entry's body.
@@ -272,7 +229,7 @@ fn body_number(file: &[u8], e: Entry, t: usize) -> f64
     requires { (body_end e ≤ length file.now) × (t < body_count e) }
     ensures { result ≡ body_number file.now e t }
 {
-    float_at(file, numbers_start(e) + 8 * t)
+    float_at(file, e.numbers_start() + 8 * t)
 }
 
 // Puts `count` numbers of a body, from number `first` on, at the front of `run`, where the rest stays, and gives `count`; where the body is not all in
@@ -284,14 +241,14 @@ fn read_numbers(file: &[u8], e: Entry, first: usize, count: usize, run: &mut [f6
     ensures all_read { body_end e ≤ length file.now → count ≤ length run.old → run.new ≡ numbers_of file.now e first count ++ drop count run.old }
     ensures counts { Counts result run.new }
 {
-    if body_end(e) > file.len() {
+    if e.body_end() > file.len() {
         return 0;
     }
     if count > run.len() {
         return 0;
     }
-    for t in 0..count {
-        run[t] = body_number(file, e, first + t);
+    for (t, x) in run[..count].iter_mut().enumerate() {
+        *x = body_number(file, e, first + t);
     }
     count
 }

@@ -1,9 +1,11 @@
 // A reader that holds a sheet file and the number of its next entry. Its methods only take it apart or put it together; the work is in
 // `file::next_at`, over the slice and the number, and `one_further`, over the number.
-ghost use Rattle.std.specs.Prelude.{◌≡◌};
-ghost use Rattle.sheet.specs.Reading.{next_of, one_further};
+ghost use Rattle.std.specs.Prelude.{◌≡◌, ◌-◌};
+ghost use Rattle.std.specs.Iterator.{at_most};
+ghost use Rattle.sheet.specs.Contents.{count_of};
+ghost use Rattle.sheet.specs.Reading.{next_of, one_further, NextGives};
 
-use super::file::{Next, next_at};
+use super::file::{Entry, next_at};
 
 // 2^64 - 1.
 const LAST_NUMBER: usize = 18_446_744_073_709_551_615;
@@ -50,15 +52,30 @@ impl<'a> Reader<'a> {
     }
 
     // The next entry, or the end.
-    pub fn entry(self) -> Next
+    pub fn entry(self) -> Option<Entry>
         ensures { result ≡ next_of self.entry.file.now self.entry.next }
     {
         next_at(self.file, self.next)
     }
 }
 
+// The entries from the next one on, in order. It ends, since a file says of no more than 2^32 - 1 that it has them.
+impl<'a> Iterator for Reader<'a> {
+    type Item = Entry;
+
+    ghost next_gives = { NextGives };
+
+    ghost remaining = { λ s. at_most (count_of s.file.now - s.next) };
+
+    fn next(&mut self) -> Option<Entry> {
+        let found = self.entry()?;
+        *self = self.advanced();
+        Some(found)
+    }
+}
+
 // Entry `i` of a file, through a reader.
-pub fn read_entry(file: &[u8], i: usize) -> Next
+pub fn read_entry(file: &[u8], i: usize) -> Option<Entry>
     ensures { result ≡ next_of file.now i }
 {
     Reader::new(file).moved(i).entry()

@@ -10,6 +10,7 @@ use lib.ListN.{length}
 use lib.Ieee.{Float, nan, inf, fin, is_nan, le, lt, eq, of_bits}
 use lib.Ieee.Bits.{is_true}
 use lib.Ieee.Scale.{finite}
+use Rattle.std.specs.Prelude.{Result, Ok, Err}
 use Rattle.floats.specs.Words.{plus_zero, one}
 use Rattle.floats.specs.Held.{held?}
 use Rattle.floats.specs.Count.{no_work}
@@ -17,8 +18,7 @@ use Rattle.elementary.specs.Bounds.{Within}
 use Rattle.elementary.specs.declared.NormalLaw.{NormalLaw}
 use Rattle.autocorrelation.specs.Statistic.{durbin_watson, durbin_watson_answer}
 use Rattle.autocorrelation.specs.Bound.{exact_squares, exact_differences, Accurate, numbers_sized?, differences_sized?, Sure}
-use Rattle.autocorrelation.specs.declared.Statistic.{Statistic}
-use Rattle.autocorrelation.specs.declared.Statistic.TheVariants as statistic
+use Rattle.autocorrelation.specs.declared.StatisticError.{StatisticError}
 use Rattle.autocorrelation.proofs.Theorems.{sure, answer-accurate, answer-finite}
 use Rattle.autocorrelation.proofs.Rules.{accepted}
 use Rattle.columns.specs.Sheet.{columns_of}
@@ -28,10 +28,8 @@ use Rattle.design.specs.Inverse.{inverse_of}
 use Rattle.design.specs.Law.{law_from, law_answer}
 use Rattle.outcome.specs.P.{normal_p, exact_p}
 use Rattle.outcome.specs.declared.Alternative.{Alternative}
-use Rattle.design.specs.declared.LawAnswer.{LawAnswer}
-use Rattle.design.specs.declared.LawAnswer.TheVariants as answer
-use Rattle.design.specs.declared.Pivots.{Pivots}
-use Rattle.design.specs.declared.Pivots.TheVariants.{Hold, Fails}
+use Rattle.design.specs.declared.LawError.{LawError}
+use Rattle.design.specs.declared.FailedPivot.{FailedPivot}
 use Rattle.outcome.proofs.Bounds.{columns-p-within-one}
 use Rattle.projection.specs.Projection.{mam_of}
 use Rattle.tridiagonal.specs.Reflection.{tridiagonal_of}
@@ -40,19 +38,21 @@ use Rattle.ql.specs.Ql.{turn_sweeps}
 use Rattle.ql.proofs.StuckLaws.{none_stuck}
 use Rattle.eigen.specs.Spectrum.{bands_stuck, spectrum_of, kept_numbers}
 use Rattle.eigen.specs.declared.Numbers.{Numbers}
-use Rattle.eigen.specs.declared.Spectrum.{Spectrum}
-use Rattle.eigen.specs.declared.Spectrum.TheVariants.{MatrixNotFinite, NumberNotFinite, Kept}
+use Rattle.eigen.specs.declared.SpectrumError.{SpectrumError}
 use Rattle.eigen.proofs.SpectrumLaws.{kept-told}
 use Rattle.weights.specs.Weights.{Signs, none, above, below, mixed, signs_of}
 use Rattle.imhof.specs.Parts.{tolerance}
 use Rattle.imhof.specs.Imhof.{imhof_of}
 use Rattle.imhof.specs.declared.Estimate.{Estimate}
-use Rattle.imhof.specs.declared.Exact.{Exact}
-use Rattle.imhof.specs.declared.Exact.TheVariants.{NoWeight, NotFinite, Value}
+use Rattle.imhof.specs.declared.ExactError.{ExactError}
+use Rattle.imhof.specs.declared.ExactError.TheVariants.{NoWeight, NotFinite}
 use Rattle.imhof.proofs.Probability.{probability-within}
 use Rattle.imhof.proofs.Ending.{small-of-integral, small-of-certain, few-small}
-use Rattle.outcome.specs.Refusals.{refusal, passes, columns_refusal, statistic_refusal, rows_refusal, pivots_refusal, inverse_refusal, room_refusal}
-use Rattle.outcome.specs.Result.{few_rows, by_imhof_path, by_law_path, few_for_law, refused_of, accepted_of, wants_exact, no_law, direct, fallen_back, worked_out}
+use Rattle.outcome.specs.Refusals.{refusal, passes, refusal_of, spectrum_error, law_error, columns_refusal, statistic_refusal, rows_refusal, pivots_refusal, inverse_refusal, room_refusal}
+use Rattle.outcome.specs.declared.Path.TheVariants as path
+use Rattle.outcome.specs.declared.refusals.TestError.{TestError}
+use Rattle.outcome.specs.declared.refusals.TestError.TheVariants.{Statistic, Pivot}
+use Rattle.outcome.specs.Result.{refused_of, accepted_of, wants_exact, no_law, direct, fallen_back, worked_out}
 use Rattle.dwtest.specs.Layout.{layout_from}
 use Rattle.dwtest.specs.Verdict.{normal_path, exact_path, by_spectrum, finish}
 use Rattle.dwtest.specs.declared.verdict.Said.TheVariants.{Answered, LawDue}
@@ -65,7 +65,7 @@ use Rattle.outcome.specs.declared.Outcome.{Outcome}
 use Rattle.outcome.specs.declared.Choice.{Choice}
 use Rattle.outcome.specs.declared.Leaving.{Leaving}
 use Rattle.dwtest.proofs.TestLaws.{pivot-fails, inverse-refused, too_few, by-normal, no_room, by-exact, columns-refused, statistic-refused, rows-refused, runs-pass}
-use Rattle.outcome.proofs.PassLaws.{sized_of}
+use Rattle.outcome.proofs.PassLaws.{reason-refuses, sized_of}
 use Rattle.theorems.specs.Document.{empty, first_given, rows, both_signs, exact_due, fell_back, weights_left, coupling_was_left, error_sum, settled_due}
 use Rattle.theorems.specs.Figures.{sweeps_in}
 use Rattle.theorems.proofs.Swept.{kept-swept}
@@ -115,14 +115,14 @@ module _ (e x : List Float) (k : ℕ) (a : Alternative) (choice : Choice) (matri
     -- a refusal
     pub refused : (r : Refusal) → passes r ≡ false → P (refused_of r)
     -- path 1
-    pub short : ltb n 3 ≡ true → P (accepted_of asked one few_rows direct no_law)
+    pub short : ltb n 3 ≡ true → P (accepted_of asked one path.FewRows direct no_law)
     -- paths 4 and 3, with what the exact path left
-    pub early : (left : Leaving) → LeftBy left → P (accepted_of asked one few_for_law left no_law)
-    pub normal : (left : Leaving) (law : NormalLaw) → LeftBy left → law_answer (law_from x n k inverse) ≡ answer.Usable law
-        → P (accepted_of asked (normal_p law d a) by_law_path left law)
+    pub early : (left : Leaving) → LeftBy left → P (accepted_of asked one path.FewForLaw left no_law)
+    pub normal : (left : Leaving) (law : NormalLaw) → LeftBy left → law_answer (law_from x n k inverse) ≡ Ok law
+        → P (accepted_of asked (normal_p law d a) path.Law left law)
     -- path 2
-    pub exact : (s : Numbers) (q : Estimate) → due ≡ true → back ≡ false → s.stuck ≡ left? → (imhof_of kept d).answer ≡ Value q
-        → P (accepted_of asked (exact_p q.probability a) by_imhof_path (worked_out s q) no_law)
+    pub exact : (s : Numbers) (q : Estimate) → due ≡ true → back ≡ false → s.stuck ≡ left? → (imhof_of kept d).answer ≡ Ok q
+        → P (accepted_of asked (exact_p q.probability a) path.Imhof (worked_out s q) no_law)
 
   -- the work that the exact path left to them: the sweeps alone
   abbrev pub WorkLeft : Leaving → Type 0
@@ -131,59 +131,60 @@ module _ (e x : List Float) (k : ℕ) (a : Alternative) (choice : Choice) (matri
   -- the same, where a property may rest on the work too, and path 2 on the spectrum as it is
   pub record ShownWorked (P : Outcome → Type 0) : Type 0 where
     pub refused : (r : Refusal) → passes r ≡ false → P (refused_of r)
-    pub short : ltb n 3 ≡ true → P (accepted_of asked one few_rows direct no_law)
-    pub early : (left : Leaving) → LeftBy left → WorkLeft left → P (accepted_of asked one few_for_law left no_law)
-    pub normal : (left : Leaving) (law : NormalLaw) → LeftBy left → WorkLeft left → law_answer (law_from x n k inverse) ≡ answer.Usable law
-        → P (accepted_of asked (normal_p law d a) by_law_path left law)
-    pub exact : (s : Numbers) (q : Estimate) → due ≡ true → back ≡ false → spectrum_of x inverse n k ≡ Kept s → (imhof_of kept d).answer ≡ Value q
-        → P (accepted_of asked (exact_p q.probability a) by_imhof_path (worked_out s q) no_law)
+    pub short : ltb n 3 ≡ true → P (accepted_of asked one path.FewRows direct no_law)
+    pub early : (left : Leaving) → LeftBy left → WorkLeft left → P (accepted_of asked one path.FewForLaw left no_law)
+    pub normal : (left : Leaving) (law : NormalLaw) → LeftBy left → WorkLeft left → law_answer (law_from x n k inverse) ≡ Ok law
+        → P (accepted_of asked (normal_p law d a) path.Law left law)
+    pub exact : (s : Numbers) (q : Estimate) → due ≡ true → back ≡ false → spectrum_of x inverse n k ≡ Ok s → (imhof_of kept d).answer ≡ Ok q
+        → P (accepted_of asked (exact_p q.probability a) path.Imhof (worked_out s q) no_law)
 
   -- the eigenvalues' mark is whether a coupling was left
-  stuck-is : (s : Numbers) → spectrum_of x inverse n k ≡ Kept s → s.stuck ≡ left?
+  stuck-is : (s : Numbers) → spectrum_of x inverse n k ≡ Ok s → s.stuck ≡ left?
   unfolding bands_stuck
   stuck-is s g = (kept-told x inverse n k s g).1
 
   module _ (P : Outcome → Type 0) (shown : ShownWorked P) where
+    refused : (why : TestError) → P (refused_of (refusal_of why))
+    refused why = shown.refused (refusal_of why) (reason-refuses why)
+
     normal-shown : (left : Leaving) → LeftBy left → WorkLeft left → P (normal_path (layout_from x n k inverse) asked left)
     unfolding normal_path
     normal-shown left f w = go (ltb n 5) (law_answer (law_from x n k inverse)) refl
       where
-        go : (b : Bool) (l : LawAnswer) → law_answer (law_from x n k inverse) ≡ l
-            → P (finish l asked (cond b (Answered (accepted_of asked one few_for_law left no_law)) (LawDue left)))
+        go : (b : Bool) (l : Result NormalLaw LawError) → law_answer (law_from x n k inverse) ≡ l
+            → P (finish l asked (cond b (Answered (accepted_of asked one path.FewForLaw left no_law)) (LawDue left)))
         go true l h = shown.early left f w
-        go false (answer.Usable law) h = shown.normal left law f w h
-        go false answer.NotFinite h = shown.refused (refusal 13 5) refl
-        go false answer.NotSpread h = shown.refused (refusal 14 0) refl
+        go false (Ok law) h = shown.normal left law f w h
+        go false (Err why) h = refused (law_error why)
 
     exact-shown : due ≡ true → P (exact_path (layout_from x n k inverse) asked)
     unfolding exact_path
     exact-shown is-due = go (spectrum_of x inverse n k) refl (imhof_of kept d).answer refl
       where
-        go : (s : Spectrum) → spectrum_of x inverse n k ≡ s → (q : Exact) → (imhof_of kept d).answer ≡ q → P (finish (layout_from x n k inverse).law asked (by_spectrum s kept asked))
-        go MatrixNotFinite g q h = shown.refused (refusal 13 2) refl
-        go NumberNotFinite g q h = shown.refused (refusal 13 3) refl
-        go (Kept s) g NoWeight h =
+        go : (s : Result Numbers SpectrumError) → spectrum_of x inverse n k ≡ s → (q : Result Estimate ExactError) → (imhof_of kept d).answer ≡ q → P (finish (layout_from x n k inverse).law asked (by_spectrum s kept asked))
+        go (Err why) g q h = refused (spectrum_error why)
+        go (Ok s) g (Err NoWeight) h =
             rw h (unfold normal_path in normal-shown (fallen_back s)
             (rw (is-due, none_left kept d h, stuck-is s g) (refl, refl, refl)) (rw (is-due, g) (refl, (kept-swept x inverse n k s g).0, (kept-swept x inverse n k s g).1)))
-        go (Kept s) g NotFinite h = rw h (shown.refused (refusal 13 4) refl)
-        go (Kept s) g (Value q) h = rw h (shown.exact s q is-due (rw (is-due, weight-left kept d (Value q) h valued) refl) g h)
+        go (Ok s) g (Err NotFinite) h = rw h (shown.refused (refusal 13 4) refl)
+        go (Ok s) g (Ok q) h = rw h (shown.exact s q is-due (rw (is-due, weight-left kept d (Ok q) h valued) refl) g h)
 
     decided-shown : P (design_of room_of x n k asked choice matrix_room part_room)
     decided-shown =
         go (pivots_of x n k) refl (passes (inverse_refusal k inverse)) refl (ltb n 3) refl (wants_exact choice n) refl (passes (room_refusal (room_of n) matrix_room part_room)) refl
       where
-        go : (p : Pivots) → pivots_of x n k ≡ p → (i : Bool) → passes (inverse_refusal k inverse) ≡ i → (f : Bool) → ltb n 3 ≡ f → (w : Bool) → wants_exact choice n ≡ w
+        go : (p : Result (Unit {0}) FailedPivot) → pivots_of x n k ≡ p → (i : Bool) → passes (inverse_refusal k inverse) ≡ i → (f : Bool) → ltb n 3 ≡ f → (w : Bool) → wants_exact choice n ≡ w
             → (r : Bool) → passes (room_refusal (room_of n) matrix_room part_room) ≡ r → P (design_of room_of x n k asked choice matrix_room part_room)
-        go (Fails c) h i g f j w l r m =
-            subst P (sym (pivot-fails room_of x n k asked choice matrix_room part_room (Fails c) h refl).0) (shown.refused (pivots_refusal (Fails c)) refl)
-        go Hold h false g f j w l r m =
+        go (Err failed) h i g f j w l r m =
+            subst P (sym (pivot-fails room_of x n k asked choice matrix_room part_room (Err failed) h refl).0) (refused (Pivot failed))
+        go (Ok hold) h false g f j w l r m =
             subst P (sym (inverse-refused room_of x n k asked choice matrix_room part_room inverse h refl g).0) (shown.refused (inverse_refusal k inverse) g)
-        go Hold h true g true j w l r m = subst P (sym (too_few room_of x n k asked choice matrix_room part_room inverse h refl g j).0) (shown.short j)
-        go Hold h true g false j false l r m =
+        go (Ok hold) h true g true j w l r m = subst P (sym (too_few room_of x n k asked choice matrix_room part_room inverse h refl g j).0) (shown.short j)
+        go (Ok hold) h true g false j false l r m =
             subst P (sym (by-normal room_of x n k asked choice matrix_room part_room inverse h refl g j l).0) (normal-shown direct (rw (j, l) (refl, refl, refl)) (rw (j, l) (refl, refl, refl)))
-        go Hold h true g false j true l false m =
+        go (Ok hold) h true g false j true l false m =
             subst P (sym (no_room room_of x n k asked choice matrix_room part_room inverse h refl g j l m).0) (shown.refused (room_refusal (room_of n) matrix_room part_room) m)
-        go Hold h true g false j true l true m =
+        go (Ok hold) h true g false j true l true m =
             subst P (sym (by-exact room_of x n k asked choice matrix_room part_room inverse h refl g j l m).0) (exact-shown (rw (j, l) refl))
 
     -- every outcome, with its work
@@ -214,20 +215,16 @@ module _ (e x : List Float) (k : ℕ) (a : Alternative) (choice : Choice) (matri
   -- ---- the statistic
 
   -- what an accepted call tells of its runs
-  checked : passes outcome.refusal ≡ true → (n ≤ 256) × (durbin_watson_answer e ≡ statistic.Value d)
+  checked : passes outcome.refusal ≡ true → (n ≤ 256) × (durbin_watson_answer e ≡ Ok d)
   checked q = go (passes (columns_refusal (columns_of x n k))) refl (durbin_watson_answer e) refl
     where
       never : {r : Refusal} → passes r ≡ false → outcome ≡ refused_of r → ⊥
       never h o = true≢false (sym q ∙ ap (λ o. passes o.refusal) o ∙ h)
 
-      go : (c : Bool) → passes (columns_refusal (columns_of x n k)) ≡ c → (s : Statistic) → durbin_watson_answer e ≡ s → (n ≤ 256) × (durbin_watson_answer e ≡ statistic.Value d)
+      go : (c : Bool) → passes (columns_refusal (columns_of x n k)) ≡ c → (s : Result Float StatisticError) → durbin_watson_answer e ≡ s → (n ≤ 256) × (durbin_watson_answer e ≡ Ok d)
       go false c s h = absurd (never c (columns-refused room_of e x k a choice matrix_room part_room (columns_of x n k) refl c).0)
-      go true c (statistic.Value v) h = ((sized_of x n k c).fits.0, h ∙ ap statistic.Value (sym (accepted e v h).is))
-      go true c statistic.Empty h = absurd (never refl (statistic-refused room_of e x k a choice matrix_room part_room (columns_of x n k) refl c statistic.Empty h refl).0)
-      go true c statistic.Single h = absurd (never refl (statistic-refused room_of e x k a choice matrix_room part_room (columns_of x n k) refl c statistic.Single h refl).0)
-      go true c (statistic.NotFinite t) h = absurd (never refl (statistic-refused room_of e x k a choice matrix_room part_room (columns_of x n k) refl c (statistic.NotFinite t) h refl).0)
-      go true c statistic.ZeroSum h = absurd (never refl (statistic-refused room_of e x k a choice matrix_room part_room (columns_of x n k) refl c statistic.ZeroSum h refl).0)
-      go true c statistic.Overflow h = absurd (never refl (statistic-refused room_of e x k a choice matrix_room part_room (columns_of x n k) refl c statistic.Overflow h refl).0)
+      go true c (Ok v) h = ((sized_of x n k c).fits.0, h ∙ ap (λ (v : Float). Ok v) (sym (accepted e v h).is))
+      go true c (Err why) h = absurd (never (reason-refuses (Statistic why)) (statistic-refused room_of e x k a choice matrix_room part_room (columns_of x n k) refl c (Err why) h (reason-refuses (Statistic why))).0)
 
   -- an accepted call reports Durbin and Watson's d
   pub statistic-is : passes outcome.refusal ≡ true → outcome.statistic ≡ durbin_watson e
@@ -306,7 +303,7 @@ module _ (e x : List Float) (k : ℕ) (a : Alternative) (choice : Choice) (matri
       go true u = h.2 ∙ rw (u, none-of-both weights (rw u at (sym h.1 ∙ u))) (and-true (not left?))
 
   -- path 2
-  exact_mark : (s : Numbers) (q : Estimate) → due ≡ true → s.stuck ≡ left? → (imhof_of kept d).answer ≡ Value q → (not s.stuck && q.small) ≡ mark
+  exact_mark : (s : Numbers) (q : Estimate) → due ≡ true → s.stuck ≡ left? → (imhof_of kept d).answer ≡ Ok q → (not s.stuck && q.small) ≡ mark
   exact_mark s q u t w = rw (u, t) (ap (λ b. not left? && b) (go (signs_of weights) refl))
     where
       go : (g : Signs) → signs_of weights ≡ g → q.small ≡ (not (both_signs (signs_of weights)) || le sum tolerance)

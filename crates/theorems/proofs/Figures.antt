@@ -13,7 +13,7 @@ use lib.Seq.{take_at}
 use lib.Ieee.{Float, binary64, to_bits, of_bits}
 use lib.Ieee.Bits.{of_bits-to_bits}
 use lib.Ieee.Fits.{div-fits}
-use Rattle.std.specs.Prelude.{Option, Some, None}
+use Rattle.std.specs.Prelude.{Option, Some, None, Result, Ok, Err}
 use Rattle.floats.specs.Words.{one}
 use Rattle.floats.specs.Search.{first_bad}
 use Rattle.autocorrelation.specs.Statistic.{differences, squares, durbin_watson, durbin_watson_answer, value}
@@ -22,24 +22,25 @@ use Rattle.design.specs.Matrix.{Matrix}
 use Rattle.design.specs.Inverse.{inverse_of}
 use Rattle.design.specs.Law.{law_from, law_answer}
 use Rattle.outcome.specs.declared.Alternative.{Alternative}
-use Rattle.design.specs.declared.LawAnswer.{LawAnswer}
-use Rattle.design.specs.declared.LawAnswer.TheVariants as answer
+use Rattle.design.specs.declared.LawError.{LawError}
 use Rattle.projection.specs.Projection.{mam_of}
 use Rattle.tridiagonal.specs.Reflection.{tridiagonal_of}
 use Rattle.eigen.specs.Spectrum.{bands_stuck, worked_of, numbers_of, kept_by, kept_from, delivered_of, delivered_numbers, spectrum_by, numbers_by, spectrum_of, kept_numbers}
 use Rattle.eigen.specs.declared.Numbers.{Numbers}
-use Rattle.eigen.specs.declared.Spectrum.{Spectrum}
-use Rattle.eigen.specs.declared.Spectrum.TheVariants.{MatrixNotFinite, NumberNotFinite, Kept}
+use Rattle.eigen.specs.declared.SpectrumError.{SpectrumError}
 use Rattle.eigen.proofs.SpectrumLaws.{kept-told}
 use Rattle.imhof.specs.Imhof.{imhof_of}
 use Rattle.imhof.specs.declared.Estimate.{Estimate}
-use Rattle.imhof.specs.declared.Exact.{Exact}
-use Rattle.imhof.specs.declared.Exact.TheVariants.{NoWeight, NotFinite, Value}
+use Rattle.imhof.specs.declared.ExactError.{ExactError}
+use Rattle.imhof.specs.declared.ExactError.TheVariants.{NoWeight, NotFinite}
 use Rattle.imhof.proofs.Ending.{few-small}
 use Rattle.outcome.specs.Refusals.{passes, first_of, columns_refusal, statistic_refusal, room_refusal}
 use Rattle.dwtest.specs.Layout.{design_checks, Layout, layout_from, layout_of}
 use Rattle.dwtest.specs.Test.{asking, run_checks, unless_refused, answer_of, design_of, test_with, test_of}
-use Rattle.outcome.specs.Result.{few_for_law, refused_of, accepted_of, wants_exact, no_law, fallen_back}
+use Rattle.outcome.specs.Refusals.{spectrum_error, law_error}
+use Rattle.outcome.specs.declared.Path.TheVariants as path
+use Rattle.outcome.proofs.PassLaws.{reason-refuses}
+use Rattle.outcome.specs.Result.{path_number, refused_of, accepted_of, wants_exact, no_law, fallen_back}
 use Rattle.dwtest.specs.Verdict.{to_law, normal_path, by_imhof, by_spectrum, finish, exact_path}
 use Rattle.dwtest.specs.declared.verdict.Said.TheVariants.{Answered, LawDue}
 use Rattle.outcome.specs.Rooms.{room_of}
@@ -129,11 +130,10 @@ module _ (x : List Float) (n k : ℕ) (inverse : Matrix) (d : Float) (a : Altern
   unfolding normal_path
   normal-hands left = go (ltb n 5) (law_answer (law_from x n k inverse))
     where
-      go : (b : Bool) (l : LawAnswer) → Hands left (finish l (asking d a n) (cond b (Answered (accepted_of (asking d a n) one few_for_law left no_law)) (LawDue left)))
+      go : (b : Bool) (l : Result NormalLaw LawError) → Hands left (finish l (asking d a n) (cond b (Answered (accepted_of (asking d a n) one path.FewForLaw left no_law)) (LawDue left)))
       go true l q = (refl, refl)
-      go false (answer.Usable law) q = (refl, refl)
-      go false answer.NotFinite q = absurd (true≢false (sym q))
-      go false answer.NotSpread q = absurd (true≢false (sym q))
+      go false (Ok law) q = (refl, refl)
+      go false (Err why) q = absurd (true≢false (sym q ∙ reason-refuses (law_error why)))
 
   handed : (s : Numbers) → Hands (fallen_back s) (finish layout.law (asking d a n) (to_law (asking d a n) (fallen_back s)))
   unfolding normal_path
@@ -145,20 +145,19 @@ module _ (x : List Float) (n k : ℕ) (inverse : Matrix) (d : Float) (a : Altern
     figures kept sweeps = record { eigenvalues = numbers; kept = kept; sweeps = sweeps; settled_sweeps = ended }
 
     -- by path 2
-    value-shows : (s : Numbers) (v : Estimate) → figures_in numbers ended (finish layout.law (asking d a n) (by_imhof (Value v) s (asking d a n))) ≡ figures s.count s.work.sweeps
+    value-shows : (s : Numbers) (v : Estimate) → figures_in numbers ended (finish layout.law (asking d a n) (by_imhof (Ok v) s (asking d a n))) ≡ figures s.count s.work.sweeps
     value-shows s v = refl
 
     exact-shows : passes (exact_path layout (asking d a n)).refusal ≡ true → figures_in numbers ended (exact_path layout (asking d a n)) ≡ figures (count_in (spectrum_of x inverse n k)) (sweeps_in (spectrum_of x inverse n k))
     unfolding exact_path
     exact-shows = go (spectrum_of x inverse n k) (imhof_of (kept_numbers x inverse n k) d).answer refl
       where
-        go : (s : Spectrum) (q : Exact) → (imhof_of (kept_numbers x inverse n k) d).answer ≡ q → passes (finish layout.law (asking d a n) (by_spectrum s (kept_numbers x inverse n k) (asking d a n))).refusal ≡ true
+        go : (s : Result Numbers SpectrumError) (q : Result Estimate ExactError) → (imhof_of (kept_numbers x inverse n k) d).answer ≡ q → passes (finish layout.law (asking d a n) (by_spectrum s (kept_numbers x inverse n k) (asking d a n))).refusal ≡ true
             → figures_in numbers ended (finish layout.law (asking d a n) (by_spectrum s (kept_numbers x inverse n k) (asking d a n))) ≡ figures (count_in s) (sweeps_in s)
-        go MatrixNotFinite q h = λ r. absurd (true≢false (sym r))
-        go NumberNotFinite q h = λ r. absurd (true≢false (sym r))
-        go (Kept s) NoWeight h = rw h (λ r. let same = handed s r in rw (same.0, same.1) refl)
-        go (Kept s) NotFinite h = rw h (λ r. absurd (true≢false (sym r)))
-        go (Kept s) (Value v) h = rw h (λ r. value-shows s v)
+        go (Err why) q h = λ r. absurd (true≢false (sym r ∙ reason-refuses (spectrum_error why)))
+        go (Ok s) (Err NoWeight) h = rw h (λ r. let same = handed s r in rw (same.0, same.1) refl)
+        go (Ok s) (Err NotFinite) h = rw h (λ r. absurd (true≢false (sym r)))
+        go (Ok s) (Ok v) h = rw h (λ r. value-shows s v)
 
 -- the eigenvalues that are passed on are counted
 delivered-counted : (n k : ℕ) (b : List Float) → count_in (delivered_of n k b) ≡ length (delivered_numbers n k b)
@@ -178,11 +177,11 @@ figures-counted x n k = go (first_bad (mam_of x (inverse_of x n k) n k))
     go None = delivered-counted n k (mam_of x (inverse_of x n k) n k)
 
 -- all four are what any answer and run have that the promise of `ma_eigenvalues`, which takes no residual, allows for the columns and their inverse
-pub figures-made : (x : List Float) (n k : ℕ) (run room : List Float) (s : Numbers) (after held : List Float) → outcomes.Kept x (inverse_of x n k) n k run room (Kept s) after held
+pub figures-made : (x : List Float) (n k : ℕ) (run room : List Float) (s : Numbers) (after held : List Float) → outcomes.Kept x (inverse_of x n k) n k run room (Ok s) after held
     → record { eigenvalues = take s.count after; kept = s.count; sweeps = s.work.sweeps; settled_sweeps = not s.stuck } ≡ figures_of x n k
 unfolding bands_stuck
 figures-made x n k run room s after held f =
-    let is : spectrum_of x (inverse_of x n k) n k ≡ Kept s = sym f.0 in
+    let is : spectrum_of x (inverse_of x n k) n k ≡ Ok s = sym f.0 in
     let known = kept-told x (inverse_of x n k) n k s is in
     let numbers = kept_numbers x (inverse_of x n k) n k in
     let front : take s.count after ≡ numbers = ap (take s.count) f.1 ∙ take_at numbers (drop (length numbers) run) s.count (sym known.0) in
@@ -244,7 +243,7 @@ module _ (s : Sheet) where
 
   -- which calls these are
   abbrev Told : Outcome → Type 0
-  Told o = (o.path ≡ 2) ⊎ (o.fallback ≡ true)
+  Told o = (path_number o.path ≡ 2) ⊎ (o.fallback ≡ true)
 
   told_of : AcceptedExact s → Told (outcome_of s)
   told_of h = holds (λ o. passes o.refusal ≡ true → Told o) (record {

@@ -5,7 +5,7 @@ use mathlib.Core.List.{List, ◌++◌}
 use Prim.Native.Nat.{ℕ, ◌+◌, ◌*◌}
 use lib.ListN.{length, drop}
 use lib.Ieee.{Float}
-use Rattle.std.specs.Prelude.{Option}
+use Rattle.std.specs.Prelude.{Option, Result}
 use Rattle.floats.specs.Matrix.{whole, half_of}
 use Rattle.floats.specs.Search.{first_bad}
 use Rattle.floats.specs.declared.tally.Tally.{Tally}
@@ -17,10 +17,12 @@ use Rattle.tridiagonal.specs.Bands.{diagonal_of, couplings_of}
 use Rattle.ql.specs.Ql.{ql_of, stuck_of}
 use Rattle.ql.specs.declared.Swept.{Swept}
 use Rattle.eigen.specs.Spectrum.{spectrum_of, kept_numbers, front_of}
-use Rattle.eigen.specs.declared.Spectrum.{Spectrum}
+use Rattle.eigen.specs.declared.Numbers.{Numbers}
+use Rattle.eigen.specs.declared.SpectrumError.{SpectrumError}
 use Rattle.imhof.specs.Room.{laid_out}
 use Rattle.imhof.specs.Imhof.{imhof_of}
-use Rattle.imhof.specs.declared.Exact.{Exact}
+use Rattle.imhof.specs.declared.Estimate.{Estimate}
+use Rattle.imhof.specs.declared.ExactError.{ExactError}
 use Rattle.outcome.specs.Rooms.{room_of, part_room, cleared_of}
 use Rattle.dwtest.specs.Test.{test_of, touched}
 use Rattle.outcome.specs.declared.Outcome.{Outcome}
@@ -43,21 +45,21 @@ module _ (e x : List Float) (k : ℕ) (a : Alternative) (choice : Choice) (matri
 
 -- ---- `prob_below_zero`: the answer, and the part room
 module _ (eigenvalues : List Float) (d : Float) (room : List Float) where
-  abbrev pub Probable : Exact → List Float → Type 0
+  abbrev pub Probable : Result Estimate ExactError → List Float → Type 0
   Probable r after = (r ≡ (imhof_of eigenvalues d).answer) × (after ≡ laid_out (imhof_of eigenvalues d).parts room)
 
-  pub one-probability : (r s : Exact) (p p' : List Float) → Probable r p → Probable s p' → (r ≡ s) × (p ≡ p')
+  pub one-probability : (r s : Result Estimate ExactError) (p p' : List Float) → Probable r p → Probable s p' → (r ≡ s) × (p ≡ p')
   one-probability r s p p' f g = (both f.0 g.0, both f.1 g.1)
 
 -- ---- `ma_eigenvalues`: the answer, the run of kept numbers, and the matrix room; `mam`: the first number that is not finite, and the room
 module _ (x : List Float) (inverse : Matrix) (n k : ℕ) (run room : List Float) where
-  abbrev pub Kept : Spectrum → List Float → List Float → Type 0
+  abbrev pub Kept : Result Numbers SpectrumError → List Float → List Float → Type 0
   Kept r after held =
       (r ≡ spectrum_of x inverse n k) ×
       (after ≡ kept_numbers x inverse n k ++ drop (length (kept_numbers x inverse n k)) run) ×
       (held ≡ front_of x inverse n k ++ (half_of n (residual_maker x inverse n k) ++ drop (n * (n + 1)) room))
 
-  pub one-spectrum : (r s : Spectrum) (p p' m m' : List Float) → Kept r p m → Kept s p' m' → (r ≡ s) × (p ≡ p') × (m ≡ m')
+  pub one-spectrum : (r s : Result Numbers SpectrumError) (p p' m m' : List Float) → Kept r p m → Kept s p' m' → (r ≡ s) × (p ≡ p') × (m ≡ m')
   one-spectrum r s p p' m m' f g = (both f.0 g.0, both f.1 g.1, both f.2 g.2)
 
   abbrev pub Projected : Option ℕ → List Float → Type 0

@@ -11,11 +11,10 @@ use borrow.Author.Tests.{lt-ltb}
 use lib.ListN.{length}
 use lib.Ieee.{Float, eq, lt}
 use lib.Ieee.Scale.{finite}
-use Rattle.std.specs.Prelude.{Option, Some, None}
+use Rattle.std.specs.Prelude.{Option, Some, None, Result, Ok, Err}
 use Rattle.floats.specs.Words.{plus_zero}
 use Rattle.floats.specs.Search.{first_where, first_bad}
-use Rattle.autocorrelation.specs.declared.Statistic.{Statistic}
-use Rattle.autocorrelation.specs.declared.Statistic.TheVariants as statistic
+use Rattle.autocorrelation.specs.declared.StatisticError.{StatisticError}
 use Rattle.autocorrelation.proofs.Rules.{accepted}
 use Rattle.autocorrelation.specs.Statistic.{squares, differences, durbin_watson, durbin_watson_answer, value}
 use Rattle.elementary.specs.declared.NormalLaw.{NormalLaw}
@@ -30,11 +29,13 @@ use Rattle.eigen.specs.Spectrum.{numbers_of, spectrum_of, kept_numbers, delivere
 use Rattle.weights.specs.Weights.{weights_of}
 use Rattle.imhof.specs.Imhof.{imhof_of}
 use Rattle.imhof.specs.declared.Estimate.{Estimate}
-use Rattle.imhof.specs.declared.Exact.{Exact}
-use Rattle.imhof.specs.declared.Exact.TheVariants.{NoWeight, NotFinite, Value}
+use Rattle.imhof.specs.declared.ExactError.{ExactError}
+use Rattle.imhof.specs.declared.ExactError.TheVariants.{NoWeight, NotFinite}
 use Rattle.imhof.proofs.Probability.{no-weight}
 use Rattle.outcome.specs.Refusals.{passed, refusal, passes, first_of, columns_refusal, statistic_refusal}
 use Rattle.outcome.specs.Result.{wants_exact, direct}
+use Rattle.outcome.specs.declared.refusals.TestError.TheVariants.{Statistic}
+use Rattle.outcome.proofs.PassLaws.{reason-refuses}
 use Rattle.dwtest.specs.Verdict.{normal_path, exact_path, by_law}
 use Rattle.dwtest.proofs.TestLaws.{columns-refused, statistic-refused, rows-refused, runs-pass}
 use Rattle.outcome.specs.Rooms.{room_of}
@@ -92,18 +93,18 @@ normal-refused x n k i asked left = go (ltb asked.rows 5) refl
 
 -- ---- the exact path's rows, and the law's where no weight is left
 
-pub valued : {v : Estimate} → Value v ≡ NoWeight → ⊥
+pub valued : {v : Estimate} → ◌≡◌ {A = Result Estimate ExactError} (Ok v) (Err NoWeight) → ⊥
 valued q = let z : ◌≡◌ {A = ℕ} 0 1 = cc in omega arith
 
 -- there is a weight, or there is none
-pub weight-left : (es : List Float) (d : Float) (q : Exact) → (imhof_of es d).answer ≡ q → (q ≡ NoWeight → ⊥) → empty (weights_of es d) ≡ false
+pub weight-left : (es : List Float) (d : Float) (q : Result Estimate ExactError) → (imhof_of es d).answer ≡ q → (q ≡ Err NoWeight → ⊥) → empty (weights_of es d) ≡ false
 weight-left es d q h never = go (weights_of es d) refl
   where
     go : (ws : List Float) → weights_of es d ≡ ws → empty ws ≡ false
     go [] e = absurd (never (sym h ∙ (no-weight es d).1 e))
     go (w ∷ ws) e = refl
 
-pub none_left : (es : List Float) (d : Float) → (imhof_of es d).answer ≡ NoWeight → empty (weights_of es d) ≡ true
+pub none_left : (es : List Float) (d : Float) → (imhof_of es d).answer ≡ Err NoWeight → empty (weights_of es d) ≡ true
 none_left es d h = rw ((no-weight es d).0 h) refl
 
 few : (n : ℕ) → ltb n 3 ≡ true → ltb n 5 ≡ true
@@ -129,13 +130,13 @@ module _ (x : List Float) (n k : ℕ) (inverse : Matrix) (d : Float) (a : Altern
   unfolding exact_path spectrum_of delivered_of exact_rows first_given law_refused
   exact-refused = go (first_bad product) refl (first_bad (numbers_of n product)) refl (imhof_of kept d).answer refl
     where
-      go : (f : Option ℕ) → first_bad product ≡ f → (g : Option ℕ) → first_bad (numbers_of n product) ≡ g → (q : Exact) → (imhof_of kept d).answer ≡ q
+      go : (f : Option ℕ) → first_bad product ≡ f → (g : Option ℕ) → first_bad (numbers_of n product) ≡ g → (q : Result Estimate ExactError) → (imhof_of kept d).answer ≡ q
           → (exact_path (layout_from x n k inverse) (asking d a n)).refusal ≡ first_given exact_rows
       go (Some t) p g q r s = rw (p) refl
       go None p (Some t) q r s = rw (p, q) refl
-      go None p None q NoWeight s = rw (p, q, s, none_left kept d s) (unfold normal_path in normal-refused x n k inverse (asking d a n) _)
-      go None p None q NotFinite s = rw (p, q, s) refl
-      go None p None q (Value v) s = rw (p, q, s, weight-left kept d (Value v) s valued) refl
+      go None p None q (Err NoWeight) s = rw (p, q, s, none_left kept d s) (unfold normal_path in normal-refused x n k inverse (asking d a n) _)
+      go None p None q (Err NotFinite) s = rw (p, q, s) refl
+      go None p None q (Ok v) s = rw (p, q, s, weight-left kept d (Ok v) s valued) refl
 
 -- ---- the whole
 
@@ -219,13 +220,9 @@ module _ (e x : List Float) (k : ℕ) (a : Alternative) (choice : Choice) (matri
   pub value-is : passes (statistic_refusal (durbin_watson_answer e)) ≡ true → value (durbin_watson_answer e) ≡ durbin_watson e
   value-is q = go (durbin_watson_answer e) refl q
     where
-      go : (s : Statistic) → durbin_watson_answer e ≡ s → passes (statistic_refusal s) ≡ true → value s ≡ durbin_watson e
-      go (statistic.Value d) h q = sym (accepted e d h).is
-      go statistic.Empty h q = absurd (true≢false (sym q))
-      go statistic.Single h q = absurd (true≢false (sym q))
-      go (statistic.NotFinite t) h q = absurd (true≢false (sym q))
-      go statistic.ZeroSum h q = absurd (true≢false (sym q))
-      go statistic.Overflow h q = absurd (true≢false (sym q))
+      go : (s : Result Float StatisticError) → durbin_watson_answer e ≡ s → passes (statistic_refusal s) ≡ true → value s ≡ durbin_watson e
+      go (Ok d) h q = sym (accepted e d h).is
+      go (Err why) h q = absurd (true≢false (sym q ∙ reason-refuses (Statistic why)))
 
   -- THE ORDER: the test refuses what the first row that holds gives, and nothing where none does
   pub as-document : answer ≡ table

@@ -17,13 +17,14 @@ use lib.Ieee.Exact.{round_exact}
 use lib.Ieee.Fits.{up_pos, down_pos, and_l, mul-fits}
 use lib.Ieee.Scale.{round_same, finite}
 use lib.Ieee.Positive.{first_pos}
+use Rattle.std.specs.Prelude.{Result, Ok, Err}
 use Rattle.floats.specs.Words.{◌⊗◌, ◌⊘◌, ◌‼◌, plus_zero}
 use Rattle.floats.specs.Held.{held?}
 use Rattle.floats.proofs.HeldLaws.{all-at, all_of}
 use Rattle.autocorrelation.specs.Bound.{exact, differences_sized?}
 use Rattle.autocorrelation.specs.Statistic.{durbin_watson_answer}
-use Rattle.autocorrelation.specs.declared.Statistic.{Statistic}
-use Rattle.autocorrelation.specs.declared.Statistic.TheVariants.{Value, ZeroSum, Overflow}
+use Rattle.autocorrelation.specs.declared.StatisticError.{StatisticError}
+use Rattle.autocorrelation.specs.declared.StatisticError.TheVariants.{ZeroSum, Overflow}
 use Rattle.autocorrelation.proofs.Rounding.{Valued}
 use Rattle.autocorrelation.proofs.Units.{quotient_is, Number, number, number_size}
 use Rattle.autocorrelation.proofs.SumLaws.{Among}
@@ -37,18 +38,18 @@ use Rattle.theorems.proofs.Seen.{answer-same, alike, allowed}
 use Rattle.theorems.proofs.Scales.{lo, hi, powers-divide, powers-fit, Times, Pair, zeros-behind, none_alike, zero_is, is_finite, zero-alone, sums-times, size_of, number_of}
 
 -- ---- the statistic, by its two sums
-abbrev told : Float → Float → Statistic
-told ss sd = cond (eq ss plus_zero) ZeroSum (cond (finite ss && finite sd) (Value (sd ⊘ ss)) Overflow)
+abbrev told : Float → Float → Result Float StatisticError
+told ss sd = cond (eq ss plus_zero) (Err ZeroSum) (cond (finite ss && finite sd) (Ok (sd ⊘ ss)) (Err Overflow))
 
 same-told : {k b c : ℕ} {ss ss' sd sd' : Float} → Times k b false false ss ss' → Times k c false false sd sd' → told ss' sd' ≡ told ss sd
 same-told {k} {b} {c} {ss} {ss'} {sd} {sd'} p q =
     rw (zero_is ss false p.units p.val, zero_is ss' false (p.units * 2 ^ k) p.val', is_finite ss false p.units p.val, is_finite sd false q.units q.val, is_finite ss' false (p.units * 2 ^ k) p.val', is_finite sd' false (q.units * 2 ^ k) q.val', none_alike (p.units * 2 ^ k) p.units (λ z. eq_of_mul-eq-mul_right (2 ^ k) (pow_pos k) p.units 0 (z ∙ sym (zero-mul (2 ^ k)))) (λ z. ap (λ (i : ℕ). i * 2 ^ k) z ∙ zero-mul (2 ^ k)))
     (go p.units q.units (eq-zero-or-pos p.units) p.val p.val' q.val q.val')
   where
-    go : (B A : ℕ) → (B ≡ 0) ⊎ (0 < B) → Valued ss false B → Valued ss' false (B * 2 ^ k) → Valued sd false A → Valued sd' false (A * 2 ^ k) → cond (eqb B 0) ZeroSum (Value (sd' ⊘ ss')) ≡ cond (eqb B 0) ZeroSum (Value (sd ⊘ ss))
+    go : (B A : ℕ) → (B ≡ 0) ⊎ (0 < B) → Valued ss false B → Valued ss' false (B * 2 ^ k) → Valued sd false A → Valued sd' false (A * 2 ^ k) → cond (eqb B 0) (Err ZeroSum) (Ok (sd' ⊘ ss')) ≡ cond (eqb B 0) (Err ZeroSum) (Ok (sd ⊘ ss))
     go B A (inl z) v v' u u' = rw (eq-eqb B 0 z) refl
     go B A (inr P) v v' u u' =
-        ap (λ (d : Float). cond (eqb B 0) ZeroSum (Value d))
+        ap (λ (d : Float). cond (eqb B 0) (Err ZeroSum) (Ok d))
         (quotient_is sd' ss' (A * 2 ^ k) (B * 2 ^ k) u' v' (mul-pos P (pow_pos k))
         ∙ round_same binary64 false (A * 2 ^ k) (B * 2 ^ k) A B (mul-pos P (pow_pos k)) P (mul_right_comm A (2 ^ k) B ∙ mul_assoc A B (2 ^ k))
         ∙ sym (quotient_is sd ss A B u v P))

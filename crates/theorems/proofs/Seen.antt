@@ -11,12 +11,12 @@ use lib.Dec.{T, eqb}
 use lib.ListN.{length}
 use lib.Ieee.{Float}
 use lib.Ieee.Scale.{finite}
-use Rattle.std.specs.Prelude.{Option, Some, None}
+use Rattle.std.specs.Prelude.{Option, Some, None, Err}
 use Rattle.floats.specs.Words.{◌‼◌}
 use Rattle.floats.specs.Search.{first_where, first_bad}
 use Rattle.floats.specs.Held.{held?}
 use Rattle.autocorrelation.specs.Statistic.{of_found, durbin_watson_answer}
-use Rattle.autocorrelation.specs.declared.Statistic.TheVariants.{Empty, Single}
+use Rattle.autocorrelation.specs.declared.StatisticError.TheVariants.{Empty, Single}
 use Rattle.outcome.specs.declared.Alternative.{Alternative}
 use Rattle.outcome.specs.Refusals.{passes}
 use Rattle.dwtest.specs.Test.{test_with, touched_with}
@@ -48,7 +48,7 @@ module _ (e e' : List Float) (long : length e' ≡ length e) where
       bad = unfold first_bad in (ap (λ (n : ℕ). first_where n (λ t. not (finite (e' ‼ t)))) long ∙ first-same (length e) (λ t. not (finite (e' ‼ t))) (λ t. not (finite (e ‼ t))) (λ t l. ap not (ends t l)))
 
       go : (a : Bool) → (a ≡ false → length e ≡ 0 → ⊥) → (b : Bool) → (b ≡ false → length e ≡ 1 → ⊥) → (f : Option ℕ) → (2 ≤ length e → f ≡ None → of_found None e' ≡ of_found None e)
-          → cond a Empty (cond b Single (of_found f e')) ≡ cond a Empty (cond b Single (of_found f e))
+          → cond a (Err Empty) (cond b (Err Single) (of_found f e')) ≡ cond a (Err Empty) (cond b (Err Single) (of_found f e))
       go true p b q f h = refl
       go false p true q f h = refl
       go false p false q (Some t) h = refl

@@ -6,12 +6,12 @@ use mathlib.Core.List.{List, [], ◌∷◌, map}
 use lib.Dec.{T, lit≤}
 use lib.IntN.{pos, negsuc}
 use lib.Ieee.{Float, add, sub, mul, div, neg, eq, of_bits, fits}
+use Rattle.std.specs.Prelude.{Ok}
 use Rattle.floats.specs.Words.{float}
 use Rattle.floats.specs.Sums.{sum_of}
 use Rattle.floats.specs.Search.{first_where, first_bad}
 use Rattle.floats.specs.Held.{all?, held?}
 use Rattle.autocorrelation.specs.Statistic.{durbin_watson_answer}
-use Rattle.autocorrelation.specs.declared.Statistic.TheVariants.{Value}
 use Rattle.theorems.specs.Scan.{turned, power, scaled, ruled, Alike}
 use Rattle.theorems.proofs.Turned.{sign}
 use Rattle.theorems.proofs.Scaled.{unit}
@@ -46,6 +46,6 @@ three-alike = (
 )
 
 -- and this statistic, 3.348..
-pub three-told : durbin_watson_answer thin_positive ≡ Value (float 0x400ac9592b2564ac)
+pub three-told : durbin_watson_answer thin_positive ≡ Ok (float 0x400ac9592b2564ac)
 unfolding durbin_watson_answer first_bad first_where sum_of add sub mul div neg eq of_bits
 three-told = refl

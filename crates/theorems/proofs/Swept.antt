@@ -5,7 +5,7 @@ use Prim.Native.Nat.{ℕ, zero, suc}
 use mathlib.Core.List.{List}
 use lib.Dec.{eqb}
 use lib.Ieee.{Float}
-use Rattle.std.specs.Prelude.{Option, Some, None}
+use Rattle.std.specs.Prelude.{Option, Some, None, Result, Ok, Err}
 use Rattle.floats.specs.Count.{no_work, one_sweep}
 use Rattle.floats.specs.Search.{first_bad}
 use Rattle.floats.specs.declared.tally.Tally.{Tally}
@@ -16,8 +16,7 @@ use Rattle.ql.specs.Sweep.{block_end, sweep_of}
 use Rattle.ql.specs.Ql.{most_sweeps, Worked, settled, ql_of}
 use Rattle.eigen.specs.Spectrum.{bands_worked, bands_stuck, worked_of, numbers_of, kept_by, delivered_of, spectrum_by, spectrum_of}
 use Rattle.eigen.specs.declared.Numbers.{Numbers}
-use Rattle.eigen.specs.declared.Spectrum.{Spectrum}
-use Rattle.eigen.specs.declared.Spectrum.TheVariants.{MatrixNotFinite, NumberNotFinite, Kept}
+use Rattle.eigen.specs.declared.SpectrumError.{SpectrumError}
 
 -- ---- the QL step only sweeps
 
@@ -52,10 +51,9 @@ only-sweeps n (suc k) d e w =
 
 -- ---- and so does the spectrum
 
-abbrev Swept : Spectrum → Type 0
-Swept MatrixNotFinite = Unit
-Swept NumberNotFinite = Unit
-Swept (Kept s) = (s.work.bisections ≡ 0) × (s.work.evaluations ≡ 0)
+abbrev Swept : Result Numbers SpectrumError → Type 0
+Swept (Err why) = Unit
+Swept (Ok s) = (s.work.bisections ≡ 0) × (s.work.evaluations ≡ 0)
 
 worked-swept : (n : ℕ) (b : List Float) → Beside (worked_of n b).work no_work
 unfolding bands_worked
@@ -78,5 +76,5 @@ spectrum-swept x inverse n k = go (first_bad (mam_of x inverse n k))
     go None = delivered-swept n k (mam_of x inverse n k)
 
 -- ONLY SWEEPS: the eigenvalues take no bisection and no evaluation
-pub kept-swept : (x : List Float) (inverse : List (List Float)) (n k : ℕ) (s : Numbers) → spectrum_of x inverse n k ≡ Kept s → (s.work.bisections ≡ 0) × (s.work.evaluations ≡ 0)
+pub kept-swept : (x : List Float) (inverse : List (List Float)) (n k : ℕ) (s : Numbers) → spectrum_of x inverse n k ≡ Ok s → (s.work.bisections ≡ 0) × (s.work.evaluations ≡ 0)
 kept-swept x inverse n k s h = subst Swept h (spectrum-swept x inverse n k)

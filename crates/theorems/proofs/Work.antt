@@ -6,17 +6,16 @@ use Prim.Native.Nat.{ℕ, ◌+◌, ◌*◌, ◌≤◌}
 use native.Mathlib.Omega.{arith}
 use lib.ListN.{length}
 use lib.Ieee.{Float}
+use Rattle.std.specs.Prelude.{Ok}
 use Rattle.floats.specs.declared.tally.Tally.{Tally}
 use Rattle.autocorrelation.specs.Statistic.{durbin_watson}
 use Rattle.design.specs.Matrix.{Matrix}
 use Rattle.design.specs.Inverse.{inverse_of}
 use Rattle.eigen.specs.Spectrum.{spectrum_of, kept_numbers}
 use Rattle.eigen.specs.declared.Numbers.{Numbers}
-use Rattle.eigen.specs.declared.Spectrum.TheVariants.{Kept}
 use Rattle.weights.specs.Weights.{Signs, none, above, below, mixed, signs_of}
 use Rattle.imhof.specs.Imhof.{imhof_of}
 use Rattle.imhof.specs.declared.Estimate.{Estimate}
-use Rattle.imhof.specs.declared.Exact.TheVariants.{Value}
 use Rattle.imhof.proofs.Probability.{work-of-integral, no-work}
 use Rattle.outcome.specs.Refusals.{passes}
 use Rattle.outcome.specs.Result.{together}
@@ -69,7 +68,7 @@ module _ (s : Sheet) where
       go true u = rw (w.1, w.2, u, none-of-both weights (rw u at (sym h.1 ∙ u))) (refl, omega arith, w.0 ∙ rw u refl)
 
   -- path 2
-  by-integral : (m : Numbers) (q : Estimate) → due ≡ true → spectrum_of x inverse n k ≡ Kept m → (imhof_of kept (durbin_watson e)).answer ≡ Value q → Counted true (together m.work q.tally)
+  by-integral : (m : Numbers) (q : Estimate) → due ≡ true → spectrum_of x inverse n k ≡ Ok m → (imhof_of kept (durbin_watson e)).answer ≡ Ok q → Counted true (together m.work q.tally)
   by-integral m q u g w = go (both_signs (signs_of weights)) refl
     where
       sweeps : m.work.sweeps ≡ cond due (sweeps_in (spectrum_of x inverse n k)) 0

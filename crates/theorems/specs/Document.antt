@@ -1,7 +1,7 @@
 -- Document 01's table of refusals, row by row in the order tried: when a row is given, and its number and place. A row is asked only where none above it holds.
 -- And when an accepted call is settled (document 02, W-201).
 -- e is the run of n residuals, x the run of k columns; of the rooms only the lengths decide. Definitions only. Assumes nothing.
-use Rattle.std.specs.Prelude.{ℕ, ◌+◌, ◌*◌, ◌≡◌, ◌⊎◌, Bool, true, false, not, ◌&&◌, ◌||◌, cond, List, [], ◌∷◌, ltb, leb, eqb, length, Float, Option, Some, None}
+use Rattle.std.specs.Prelude.{ℕ, ◌+◌, ◌*◌, ◌≡◌, ◌⊎◌, Bool, true, false, not, ◌&&◌, ◌||◌, cond, List, [], ◌∷◌, ltb, leb, eqb, length, Float, Option, Some, None, Result, Ok, Err}
 use Rattle.std.specs.Float.Ieee.{eq, lt, le}
 use Rattle.std.specs.Float.Ieee.Scale.{finite}
 use Rattle.floats.specs.Words.{plus_zero}
@@ -22,8 +22,9 @@ use Rattle.eigen.specs.Spectrum.{numbers_of, kept_numbers}
 use Rattle.weights.specs.Weights.{weights_of, Signs, none, above, below, mixed, signs_of}
 use Rattle.imhof.specs.Parts.{errors_of, tolerance}
 use Rattle.imhof.specs.Imhof.{last_stage, imhof_of}
-use Rattle.imhof.specs.declared.Exact.{Exact}
-use Rattle.imhof.specs.declared.Exact.TheVariants.{NoWeight, NotFinite, Value}
+use Rattle.imhof.specs.declared.Estimate.{Estimate}
+use Rattle.imhof.specs.declared.ExactError.{ExactError}
+use Rattle.imhof.specs.declared.ExactError.TheVariants.{NoWeight, NotFinite}
 use Rattle.outcome.specs.Refusals.{passed, refusal}
 use Rattle.outcome.specs.Result.{wants_exact}
 use Rattle.outcome.specs.declared.Refusal.{Refusal}
@@ -57,10 +58,10 @@ empty [] = true
 empty (w ∷ ws) = false
 
 -- an end of the range, a part's value or error estimate was not finite
-abbrev pub broken : Exact → Bool
-broken NoWeight = false
-broken NotFinite = true
-broken (Value q) = false
+abbrev pub broken : Result Estimate ExactError → Bool
+broken (Err NoWeight) = false
+broken (Err NotFinite) = true
+broken (Ok q) = false
 
 -- the weights have both signs, so that an integral is needed
 abbrev pub both_signs : Signs → Bool

@@ -1,15 +1,16 @@
 -- What a layout's figures may show (document 02, W-213). Four figures of an accepted exact call are passed on: the kept eigenvalues, their count, the sweeps, and whether the
 -- sweeps ended. They stand here as the columns alone give them and as a call has them; the laws, as types, say that these are one, so that two calls of one layout pass on the
 -- same however their residuals differ. proofs/Figures.antt proves them. Nothing is said of time, and nothing of refused calls. Definitions only. Assumes nothing.
-use Rattle.std.specs.Prelude.{ℕ, ◌<◌, ◌≡◌, ◌⊎◌, Bool, true, not, ◌&&◌, List, length, Float}
+use Rattle.std.specs.Prelude.{ℕ, ◌<◌, ◌≡◌, ◌⊎◌, Bool, true, not, ◌&&◌, List, length, Float, Result, Ok, Err}
 use Rattle.std.specs.Float.{binary64}
 use Rattle.std.specs.Float.Ieee.{to_bits}
 use Rattle.design.specs.Inverse.{inverse_of}
 use Rattle.projection.specs.Projection.{mam_of}
 use Rattle.eigen.specs.Spectrum.{spectrum_of, kept_numbers}
-use Rattle.eigen.specs.declared.Spectrum.{Spectrum}
-use Rattle.eigen.specs.declared.Spectrum.TheVariants.{MatrixNotFinite, NumberNotFinite, Kept}
+use Rattle.eigen.specs.declared.Numbers.{Numbers}
+use Rattle.eigen.specs.declared.SpectrumError.{SpectrumError}
 use Rattle.outcome.specs.Refusals.{passes}
+use Rattle.outcome.specs.Result.{path_number}
 use Rattle.outcome.specs.declared.Outcome.{Outcome}
 use Rattle.theorems.specs.Document.{left_coupled, kept_of, exact_due, coupling_was_left, integral_ended}
 use Rattle.theorems.specs.Sheets.{Sheet, outcome_of}
@@ -22,15 +23,13 @@ pub record Figures : Type 0 where
   pub settled_sweeps : Bool
 
 -- how many numbers a spectrum keeps, and its sweeps; 0 where it is refused
-abbrev pub count_in : Spectrum → ℕ
-count_in MatrixNotFinite = 0
-count_in NumberNotFinite = 0
-count_in (Kept s) = s.count
+abbrev pub count_in : Result Numbers SpectrumError → ℕ
+count_in (Err why) = 0
+count_in (Ok s) = s.count
 
-abbrev pub sweeps_in : Spectrum → ℕ
-sweeps_in MatrixNotFinite = 0
-sweeps_in NumberNotFinite = 0
-sweeps_in (Kept s) = s.work.sweeps
+abbrev pub sweeps_in : Result Numbers SpectrumError → ℕ
+sweeps_in (Err why) = 0
+sweeps_in (Ok s) = s.work.sweeps
 
 -- OF A LAYOUT: x is the run of k columns of n rows, and no residual comes in
 abbrev pub figures_of : List Float → ℕ → ℕ → Figures
@@ -72,8 +71,8 @@ pub record OneLayout (s s' : Sheet) : Type 0 where
 abbrev pub ExactTold : Type 0
 ExactTold =
     (s : Sheet)
-    → (AcceptedExact s → ((outcome_of s).path ≡ 2) ⊎ ((outcome_of s).fallback ≡ true))
-    × (((outcome_of s).path ≡ 2) ⊎ ((outcome_of s).fallback ≡ true) → AcceptedExact s)
+    → (AcceptedExact s → (path_number (outcome_of s).path ≡ 2) ⊎ ((outcome_of s).fallback ≡ true))
+    × ((path_number (outcome_of s).path ≡ 2) ⊎ ((outcome_of s).fallback ≡ true) → AcceptedExact s)
 
 -- THE FIGURES of a call are those of its layout, and settled is their sweep half and that the integral ended, where one was needed
 abbrev pub FiguresShown : Type 0
@@ -114,5 +113,5 @@ SameResult =
 -- both in particular where path 2 answered
 abbrev pub SameOnPathTwo : Type 0
 SameOnPathTwo =
-    (s s' : Sheet) → OneLayout s s' → (outcome_of s).path ≡ 2 → (outcome_of s').path ≡ 2
+    (s s' : Sheet) → OneLayout s s' → path_number (outcome_of s).path ≡ 2 → path_number (outcome_of s').path ≡ 2
     → (passed_on s ≡ passed_on s') × (to_bits binary64 (outcome_of s).statistic ≡ to_bits binary64 (outcome_of s').statistic → outcome_of s ≡ outcome_of s')

@@ -13,7 +13,7 @@ ghost use Rattle.std.specs.Prelude.{◌*◌, ◌≤◌, length};
 
 use floats::bits::{float_at, little_endian};
 use imhof::PART_ROOM;
-use outcome::{alternative_of, choice_of};
+use outcome::{Alternative, Choice, alternative_of, choice_of};
 use std::io;
 use std::io::Read;
 
@@ -21,39 +21,64 @@ const MOST_CALLS: usize = 1_000_000;
 
 const MOST_NUMBERS: usize = 4096;
 
-// The numbers whose patterns stand in `bytes`, at the start of `run`.
-fn read_numbers(bytes: &[u8], count: usize, run: &mut [f64])
-    requires { (8 * count ≤ length bytes.now) × (count ≤ length run.old) }
-{
-    for t in 0..count {
-        run[t] = float_at(bytes, 8 * t);
+// A call as its head says: how many residuals and how many numbers of columns follow, k, what is asked for, and how much of the rooms is lent.
+#[derive(Clone, Copy)]
+struct Call {
+    residuals: usize,
+    columns: usize,
+    k: usize,
+    alternative: Alternative,
+    choice: Choice,
+    matrix: usize,
+    parts: usize,
+}
+
+fn call_in(head: &[u8; 56]) -> Call {
+    Call {
+        residuals: little_endian(head, 0, 8) as usize,
+        columns: little_endian(head, 8, 8) as usize,
+        k: little_endian(head, 16, 8) as usize,
+        alternative: alternative_of(little_endian(head, 24, 1)),
+        choice: choice_of(little_endian(head, 32, 1)),
+        matrix: little_endian(head, 40, 8) as usize,
+        parts: little_endian(head, 48, 8) as usize,
     }
 }
 
-// Fills both rooms, calls the test with the first n numbers of a run as residuals and the others as columns, and prints the line of call `i`.
+// The numbers whose patterns stand in `bytes`.
+fn read_numbers(bytes: &[u8], run: &mut [f64])
+    requires { 8 * length run.old ≤ length bytes.now }
+{
+    for (t, x) in run.iter_mut().enumerate() {
+        *x = float_at(bytes, 8 * t);
+    }
+}
+
+// Fills both rooms, calls the test, and prints the line of call `i`.
 fn test(
     rt: &impl Print,
     i: usize,
-    head: &[u8; 56],
-    run: &[f64],
-    n: usize,
+    call: Call,
+    residuals: &[f64],
+    columns: &[f64],
     matrix: &mut [f64],
     parts: &mut [f64],
 ) -> io::Result<()>
-    requires { (n ≤ length run.now) × (n ≤ 4096) }
+    requires { length residuals.now ≤ 4096 }
 {
     rooms::fill(matrix);
     rooms::fill(parts);
     let outcome = dwtest::durbin_watson_test(
-        &run[..n],
-        &run[n..],
-        little_endian(head, 16, 8) as usize,
-        alternative_of(little_endian(head, 24, 1)),
-        choice_of(little_endian(head, 32, 1)),
+        residuals,
+        columns,
+        call.k,
+        call.alternative,
+        call.choice,
         matrix,
         parts,
     );
     print::print_outcome(rt, i, outcome)?;
+    let n = residuals.len();
     print::print_rooms(
         rt,
         rooms::held(matrix, n * (n + 1)),
@@ -61,63 +86,27 @@ fn test(
     )
 }
 
-// A call whose head was read, with room for its numbers; false where it asks for more of them than there are, or the input ends.
-fn call_of(
-    rt: &(impl Input + Print),
-    i: usize,
-    head: &[u8; 56],
-    bytes: &mut [u8],
-    run: &mut [f64],
-    matrix: &mut [f64],
-    parts: &mut [f64],
-) -> io::Result<bool>
-    requires { (32768 ≤ length bytes.old) × (4096 ≤ length run.old) }
-{
-    let n = little_endian(head, 0, 8) as usize;
-    let m = little_endian(head, 8, 8) as usize;
-    if n > MOST_NUMBERS {
-        return Ok(false);
-    }
-    if m > MOST_NUMBERS - n {
-        return Ok(false);
-    }
-    let count = n + m;
-    let size = 8 * count;
-    if rt.reader().read_exact(&mut bytes[..size]).is_err() {
-        return Ok(false);
-    }
-    read_numbers(bytes, count, run);
-    test(rt, i, head, &run[..count], n, matrix, parts)?;
-    Ok(true)
-}
-
-// The same, in as much of the rooms as it asks for; false too where there is less.
+// A call with the rooms that it is lent; false where it has more numbers than there is room for, or the input ends.
 fn one_call(
     rt: &(impl Input + Print),
     i: usize,
-    head: &[u8; 56],
+    call: Call,
     matrix: &mut [f64],
     parts: &mut [f64],
 ) -> io::Result<bool> {
-    let a = little_endian(head, 40, 8) as usize;
-    let b = little_endian(head, 48, 8) as usize;
-    if a > matrix.len() {
+    let n = call.residuals;
+    if n > MOST_NUMBERS || call.columns > MOST_NUMBERS - n {
         return Ok(false);
     }
-    if b > parts.len() {
-        return Ok(false);
-    }
+    let count = n + call.columns;
     let mut bytes = [0u8; 8 * MOST_NUMBERS];
     let mut run = [0.0f64; MOST_NUMBERS];
-    call_of(
-        rt,
-        i,
-        head,
-        &mut bytes,
-        &mut run,
-        &mut matrix[..a],
-        &mut parts[..b],
-    )
+    if rt.reader().read_exact(&mut bytes[..8 * count]).is_err() {
+        return Ok(false);
+    }
+    read_numbers(&bytes, &mut run[..count]);
+    test(rt, i, call, &run[..n], &run[n..count], matrix, parts)?;
+    Ok(true)
 }
 
 fn calls(rt: &(impl Input + Print), matrix: &mut [f64], parts: &mut [f64]) -> io::Result<()> {
@@ -126,7 +115,12 @@ fn calls(rt: &(impl Input + Print), matrix: &mut [f64], parts: &mut [f64]) -> io
         if rt.reader().read_exact(&mut head).is_err() {
             return Ok(());
         }
-        if !one_call(rt, i, &head, matrix, parts)? {
+        let call = call_in(&head);
+        if call.matrix > matrix.len() || call.parts > parts.len() {
+            return print::print_cut(rt);
+        }
+        let (matrix, parts) = (&mut matrix[..call.matrix], &mut parts[..call.parts]);
+        if !one_call(rt, i, call, matrix, parts)? {
             return print::print_cut(rt);
         }
     }

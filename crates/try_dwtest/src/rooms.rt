@@ -6,6 +6,8 @@ ghost use Rattle.imhof.specs.Room.{part_room};
 use floats::bits::bits_of;
 use floats::limits::MAX_ROWS;
 use imhof::PART_ROOM;
+use std::fmt;
+use std::num::nearest_usize_to_f64;
 
 // For 256 rows 2n² numbers, nearly twice what they want, and eight more.
 pub fn matrix_room() -> [f64; 2 * MAX_ROWS * MAX_ROWS + 8]
@@ -22,43 +24,52 @@ pub fn part_room() -> [f64; PART_ROOM + 8]
 }
 
 // 1, 2, 3, ..: no number is +0, and no two are the same.
+fn filler(t: usize) -> f64 {
+    nearest_usize_to_f64(t.saturating_add(1))
+}
+
 pub fn fill(room: &mut [f64])
     ensures { length room.new ≡ length room.old }
 {
-    let mut x = 1.0f64;
-    for t in 0..room.len() {
-        room[t] = x;
-        x = x + 1.0;
+    for (t, x) in room.iter_mut().enumerate() {
+        *x = filler(t);
     }
 }
 
-// 0 where every number is as `fill` left it; else 1 where the first `m` are +0 and the others as they were; else 2.
-pub fn held(room: &[f64], m: usize) -> u64 {
-    let mut x = 1.0f64;
-    let mut as_it_was = true;
-    let mut cleared = m <= room.len();
-    for t in 0..room.len() {
-        let pattern = bits_of(room[t]);
-        let same = pattern == bits_of(x);
-        if !same {
-            as_it_was = false;
-        }
-        if t < m {
-            if pattern != 0 {
-                cleared = false;
-            }
-        } else {
-            if !same {
-                cleared = false;
-            }
-        }
-        x = x + 1.0;
+// Whether the numbers from place `m` on are as `fill` left them.
+fn is_filled(room: &[f64], m: usize) -> bool {
+    room.iter()
+        .enumerate()
+        .skip(m)
+        .all(|(t, x)| bits_of(*x) == bits_of(filler(t)))
+}
+
+// What a room holds after a call.
+#[derive(Clone, Copy, Debug, PartialEq, Eq)]
+pub enum Held {
+    AsFilled,
+    Cleared,
+    Other,
+}
+
+// The word that a line has for it.
+impl fmt::Display for Held {
+    fn fmt<W: fmt::Write>(&self, f: &mut fmt::Formatter<W>) -> fmt::Result {
+        f.write_str(match self {
+            Held::AsFilled => "0",
+            Held::Cleared => "1",
+            Held::Other => "2",
+        })
     }
-    if as_it_was {
-        return 0;
+}
+
+// Every number as `fill` left it; else the first `m` +0 and the others as they were; else anything.
+pub fn held(room: &[f64], m: usize) -> Held {
+    if is_filled(room, 0) {
+        Held::AsFilled
+    } else if m <= room.len() && room[..m].iter().all(|x| bits_of(*x) == 0) && is_filled(room, m) {
+        Held::Cleared
+    } else {
+        Held::Other
     }
-    if cleared {
-        return 1;
-    }
-    2
 }

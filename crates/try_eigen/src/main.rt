@@ -14,7 +14,7 @@ ghost use Rattle.columns.specs.Sheet.{Design};
 
 use columns::{SheetSize, SizeAnswer};
 use design::Matrix;
-use eigen::Spectrum;
+use eigen::SpectrumError;
 use floats::bits::{float_at, little_endian};
 use floats::limits::{MAX_COLUMNS, MAX_ROWS};
 use outcome::refusals::{EIGENVALUES, PRODUCT, not_finite, of_inverse, of_pivots};
@@ -44,9 +44,9 @@ fn spectrum_of(
     let mut kept = [0.0f64; MAX_ROWS];
     let spectrum = eigen::ma_eigenvalues(columns, size, inverse, room, &mut kept);
     match spectrum {
-        Spectrum::MatrixNotFinite => print_refusal(rt, i, not_finite(PRODUCT)),
-        Spectrum::NumberNotFinite => print_refusal(rt, i, not_finite(EIGENVALUES)),
-        Spectrum::Kept(numbers) => print_kept(rt, i, numbers, &kept),
+        Ok(numbers) => print_kept(rt, i, numbers, &kept),
+        Err(SpectrumError::MatrixNotFinite) => print_refusal(rt, i, not_finite(PRODUCT)),
+        Err(SpectrumError::NumberNotFinite) => print_refusal(rt, i, not_finite(EIGENVALUES)),
     }
 }
 

@@ -10,21 +10,53 @@ ghost use Rattle.floats.specs.Limits.{max_rows};
 use floats::bits::{bits_of, float_at, little_endian};
 use floats::limits::MAX_ROWS;
 use floats::tally::Tally;
-use imhof::{Exact, PART_ROOM, Quadrature};
-use std::io;
+use imhof::{Estimate, ExactError, Integral, NotFinite, PART_ROOM};
 use std::io::Read;
+use std::{fmt, io};
 
 const MOST_SETS: usize = 1_000_000;
 
-const NO_WEIGHT: u64 = 0;
-
-const NOT_FINITE: u64 = 1;
-
-const VALUE: u64 = 2;
-
-// How a set ends. A value has the bits of the probability before it is clamped and after, or of the integral and the summed error;
-// the rest is 0 where there is none.
+// What is answered: a value has the probability before it is clamped and after, or the integral and the summed error, and the work.
 #[derive(Clone, Copy)]
+enum Answer {
+    NoWeight,
+    NotFinite,
+    Value {
+        value: f64,
+        beside: f64,
+        work: Tally,
+    },
+}
+
+impl From<Result<Estimate, ExactError>> for Answer {
+    fn from(found: Result<Estimate, ExactError>) -> Answer {
+        match found {
+            Ok(e) => Answer::Value {
+                value: e.raw,
+                beside: e.probability,
+                work: e.tally,
+            },
+            Err(ExactError::NoWeight) => Answer::NoWeight,
+            Err(ExactError::NotFinite) => Answer::NotFinite,
+        }
+    }
+}
+
+impl From<Result<Integral, NotFinite>> for Answer {
+    fn from(found: Result<Integral, NotFinite>) -> Answer {
+        match found {
+            Ok(i) => Answer::Value {
+                value: i.value,
+                beside: i.error,
+                work: i.tally,
+            },
+            Err(NotFinite) => Answer::NotFinite,
+        }
+    }
+}
+
+// How a set ends, in the words of the input: 0 no weight, 1 not finite or 2 a value; then the value's words, 0 where there is none.
+#[derive(Clone, Copy, PartialEq, Eq)]
 struct Ending {
     kind: u64,
     value: u64,
@@ -33,89 +65,69 @@ struct Ending {
     evaluations: u64,
 }
 
-fn without_value(kind: u64) -> Ending {
-    Ending {
-        kind,
-        value: 0,
-        beside: 0,
-        bisections: 0,
-        evaluations: 0,
+impl Ending {
+    fn without_value(kind: u64) -> Ending {
+        Ending {
+            kind,
+            value: 0,
+            beside: 0,
+            bisections: 0,
+            evaluations: 0,
+        }
+    }
+
+    // As the set of this head has it.
+    fn stored(head: &[u8; 72]) -> Ending {
+        Ending {
+            kind: little_endian(head, 32, 8),
+            value: little_endian(head, 40, 8),
+            beside: little_endian(head, 48, 8),
+            bisections: little_endian(head, 56, 8),
+            evaluations: little_endian(head, 64, 8),
+        }
     }
 }
 
-fn with_value(value: f64, beside: f64, work: Tally) -> Ending {
-    Ending {
-        kind: VALUE,
-        value: bits_of(value),
-        beside: bits_of(beside),
-        bisections: work.bisections as u64,
-        evaluations: work.evaluations as u64,
+impl From<Answer> for Ending {
+    fn from(answer: Answer) -> Ending {
+        match answer {
+            Answer::NoWeight => Ending::without_value(0),
+            Answer::NotFinite => Ending::without_value(1),
+            Answer::Value {
+                value,
+                beside,
+                work,
+            } => Ending {
+                kind: 2,
+                value: bits_of(value),
+                beside: bits_of(beside),
+                bisections: work.bisections as u64,
+                evaluations: work.evaluations as u64,
+            },
+        }
     }
 }
 
-fn of_probability(answer: Exact) -> Ending {
-    match answer {
-        Exact::NoWeight => without_value(NO_WEIGHT),
-        Exact::NotFinite => without_value(NOT_FINITE),
-        Exact::Value(e) => with_value(e.raw, e.probability, e.tally),
+impl fmt::Display for Ending {
+    fn fmt<W: fmt::Write>(&self, f: &mut fmt::Formatter<W>) -> fmt::Result {
+        let e = *self;
+        write!(
+            f,
+            "{} {:016x} {:016x} {} {}",
+            e.kind, e.value, e.beside, e.bisections, e.evaluations
+        )
     }
 }
 
-fn of_integral(answer: Quadrature) -> Ending {
-    match answer {
-        Quadrature::Broken => without_value(NOT_FINITE),
-        Quadrature::Sum(i) => with_value(i.value, i.error, i.tally),
-    }
-}
-
-fn ending_of(head: &[u8; 72], numbers: &[f64]) -> Ending
+fn answer_to(head: &[u8; 72], numbers: &[f64]) -> Answer
     requires { length numbers.now ≤ max_rows }
 {
     let mut parts = [0.0f64; PART_ROOM];
     let from = float_at(head, 16);
     if little_endian(head, 0, 8) == 0 {
-        return of_probability(imhof::prob_below_zero(numbers, from, &mut parts));
+        return imhof::prob_below_zero(numbers, from, &mut parts).into();
     }
-    of_integral(imhof::adaptive::integrate(numbers, from, float_at(head, 24), &mut parts))
-}
-
-fn stored_ending(head: &[u8; 72]) -> Ending {
-    Ending {
-        kind: little_endian(head, 32, 8),
-        value: little_endian(head, 40, 8),
-        beside: little_endian(head, 48, 8),
-        bisections: little_endian(head, 56, 8),
-        evaluations: little_endian(head, 64, 8),
-    }
-}
-
-fn is_same(a: Ending, b: Ending) -> bool {
-    if a.kind != b.kind {
-        return false;
-    }
-    if a.value != b.value {
-        return false;
-    }
-    if a.beside != b.beside {
-        return false;
-    }
-    if a.bisections != b.bisections {
-        return false;
-    }
-    a.evaluations == b.evaluations
-}
-
-fn print_ending(rt: &impl Print, text: &str, e: Ending) -> io::Result<()> {
-    let (kind, value, beside) = (e.kind, e.value, e.beside);
-    let (bisections, evaluations) = (e.bisections, e.evaluations);
-    print!(rt; "{text}{kind} {value:016x} {beside:016x} {bisections} {evaluations}")
-}
-
-fn print_wrong(rt: &impl Print, i: usize, got: Ending, want: Ending) -> io::Result<()> {
-    print!(rt; "set {i}")?;
-    print_ending(rt, " ends ", got)?;
-    print_ending(rt, ", not ", want)?;
-    println!(rt)
+    imhof::adaptive::integrate(numbers, from, float_at(head, 24), &mut parts).into()
 }
 
 fn print_cut(rt: &impl Print) -> io::Result<()> {
@@ -132,7 +144,7 @@ fn read_numbers(bytes: &[u8], count: usize, numbers: &mut [f64])
 }
 
 // Sets by how they end, where that is as stored, and the others.
-#[derive(Clone, Copy)]
+#[derive(Clone, Copy, Default)]
 struct Score {
     empty: usize,
     broken: usize,
@@ -140,50 +152,28 @@ struct Score {
     wrong: usize,
 }
 
-// One set more, which ended as stored in this kind, or not as stored.
-fn scored(s: Score, right: bool, kind: u64) -> Score
-    requires { (s.empty < 2 ^ 32) × (s.broken < 2 ^ 32) × (s.value < 2 ^ 32) × (s.wrong < 2 ^ 32) }
-    ensures { (result.empty ≤ s.empty + 1) × (result.broken ≤ s.broken + 1) × (result.value ≤ s.value + 1) × (result.wrong ≤ s.wrong + 1) }
-{
-    if !right {
-        return Score {
-            empty: s.empty,
-            broken: s.broken,
-            value: s.value,
-            wrong: s.wrong + 1,
-        };
+impl Score {
+    // One set more: what was answered where that is as stored, else nothing.
+    fn count(&mut self, right: Option<Answer>)
+        requires { (self.old.empty < 2 ^ 32) × (self.old.broken < 2 ^ 32) × (self.old.value < 2 ^ 32) × (self.old.wrong < 2 ^ 32) }
+        ensures { (self.new.empty ≤ self.old.empty + 1) × (self.new.broken ≤ self.old.broken + 1) × (self.new.value ≤ self.old.value + 1) × (self.new.wrong ≤ self.old.wrong + 1) }
+    {
+        match right {
+            Some(Answer::NoWeight) => self.empty += 1,
+            Some(Answer::NotFinite) => self.broken += 1,
+            Some(Answer::Value { .. }) => self.value += 1,
+            None => self.wrong += 1,
+        }
     }
-    if kind == NO_WEIGHT {
-        return Score {
-            empty: s.empty + 1,
-            broken: s.broken,
-            value: s.value,
-            wrong: s.wrong,
-        };
-    }
-    if kind == NOT_FINITE {
-        return Score {
-            empty: s.empty,
-            broken: s.broken + 1,
-            value: s.value,
-            wrong: s.wrong,
-        };
-    }
-    Score {
-        empty: s.empty,
-        broken: s.broken,
-        value: s.value + 1,
-        wrong: s.wrong,
+
+    fn print(self, rt: &impl Print, sets: usize) -> io::Result<()> {
+        let (empty, broken, value, wrong) = (self.empty, self.broken, self.value, self.wrong);
+        print!(rt; "sets: {sets}, without a weight {empty}, not finite {broken}")?;
+        println!(rt; ", with a value {value}; not as stored: {wrong}")
     }
 }
 
-fn print_score(rt: &impl Print, sets: usize, s: Score) -> io::Result<()> {
-    let (empty, broken, value, wrong) = (s.empty, s.broken, s.value, s.wrong);
-    print!(rt; "sets: {sets}, without a weight {empty}, not finite {broken}")?;
-    println!(rt; ", with a value {value}; not as stored: {wrong}")
-}
-
-// Whether set `i`, whose head was read, ends as stored. The rooms are as long as the longest set.
+// What set `i`, whose head was read, is answered, where it ends as stored. The rooms are as long as the longest set.
 fn replay(
     rt: &(impl Input + Print),
     i: usize,
@@ -191,29 +181,30 @@ fn replay(
     count: usize,
     bytes: &mut [u8],
     numbers: &mut [f64],
-) -> io::Result<bool>
+) -> io::Result<Option<Answer>>
     requires { (count ≤ max_rows) × (8 * count ≤ length bytes.old) × (count ≤ length numbers.old) }
 {
     let size = 8 * count;
     if rt.reader().read_exact(&mut bytes[..size]).is_err() {
         print_cut(rt)?;
-        return Ok(false);
+        return Ok(None);
     }
     read_numbers(bytes, count, numbers);
-    let got = ending_of(head, &numbers[..count]);
-    let want = stored_ending(head);
-    if is_same(got, want) {
-        return Ok(true);
+    let answer = answer_to(head, &numbers[..count]);
+    let got = Ending::from(answer);
+    let want = Ending::stored(head);
+    if got == want {
+        return Ok(Some(answer));
     }
-    print_wrong(rt, i, got, want)?;
-    Ok(false)
+    println!(rt; "set {i} ends {got}, not {want}")?;
+    Ok(None)
 }
 
-fn replay_set(rt: &(impl Input + Print), i: usize, head: &[u8; 72]) -> io::Result<bool> {
+fn replay_set(rt: &(impl Input + Print), i: usize, head: &[u8; 72]) -> io::Result<Option<Answer>> {
     let count = little_endian(head, 8, 8) as usize;
     if count > MAX_ROWS {
         println!(rt; "a set is too long")?;
-        return Ok(false);
+        return Ok(None);
     }
     let mut bytes = [0u8; 8 * MAX_ROWS];
     let mut numbers = [0.0f64; MAX_ROWS];
@@ -234,22 +225,13 @@ fn read_head(rt: &(impl Input + Print), head: &mut [u8; 72]) -> io::Result<bool>
 }
 
 fn main(rt: HostRuntime) -> io::Result<()> {
-    let mut score = Score {
-        empty: 0,
-        broken: 0,
-        value: 0,
-        wrong: 0,
-    };
+    let mut score = Score::default();
     for i in 0..MOST_SETS {
         let mut head = [0u8; 72];
         if !read_head(&rt, &mut head)? {
-            return print_score(&rt, i, score);
+            return score.print(&rt, i);
         }
-        score = scored(
-            score,
-            replay_set(&rt, i, &head)?,
-            little_endian(&head, 32, 8),
-        );
+        score.count(replay_set(&rt, i, &head)?);
     }
     Ok(())
 }

@@ -3,21 +3,18 @@
 // the form, the refusal's number and place, the bits of the integral and of the summed error, bisections and evaluations.
 #![tactic(auto)]
 
-ghost use Rattle.std.specs.Prelude.{◌≤◌};
-ghost use Rattle.columns.specs.Sheet.{Design};
+ghost use Rattle.std.specs.Prelude.{◌≤◌, length};
 
-use autocorrelation::Statistic;
-use columns::{Columns, SheetSize};
-use design::{Matrix, Pivots};
-use eigen::Spectrum;
+use columns::Sheet;
+use design::Matrix;
 use floats::bits::bits_of;
 use floats::limits::{MAX_COLUMNS, MAX_ROWS};
-use imhof::{PART_ROOM, Quadrature};
+use imhof::{Integral, PART_ROOM};
 use lines::LONGEST;
 use outcome::Refusal;
-use outcome::refusals::{of_quadrature, of_records};
-use records::Answer;
-use sheet::file::{Entry, FileCheck, FileRefusal, LARGEST, MOST_NUMBERS, Next};
+use outcome::refusals::TestError;
+use sheet::file::{Entry, FileRefusal, LARGEST, MOST_NUMBERS};
+use sheet::reader::Reader;
 use std::io;
 use std::io::Read;
 
@@ -40,22 +37,14 @@ fn print_file_refusal(rt: &impl Print, refusal: FileRefusal) -> io::Result<()> {
     rt.write_all(&out[..n])
 }
 
-fn print_quadrature(rt: &impl Print, q: Quadrature) -> io::Result<()> {
-    match q {
-        Quadrature::Broken => print_refusal(rt, of_quadrature(q)),
-        Quadrature::Sum(i) => {
-            let work = i.tally;
+fn print_integral(rt: &impl Print, found: Result<Integral, TestError>) -> io::Result<()> {
+    match found {
+        Ok(i) => {
             let (value, error) = (bits_of(i.value), bits_of(i.error));
-            let (bisections, evaluations) = (work.bisections, work.evaluations);
+            let (bisections, evaluations) = (i.tally.bisections, i.tally.evaluations);
             println!(rt; " 0 0 {value:016x} {error:016x} {bisections} {evaluations}")
         }
-    }
-}
-
-fn print_answer(rt: &impl Print, a: Answer) -> io::Result<()> {
-    match a {
-        Answer::RoomShort => print_refusal(rt, of_records(a)),
-        Answer::Found(q) => print_quadrature(rt, q),
+        Err(why) => print_refusal(rt, why.into()),
     }
 }
 
@@ -74,96 +63,52 @@ fn try_range(
 ) -> io::Result<()> {
     let mut parts = [0.0f64; PART_ROOM];
     print_head(rt, name, i, "four")?;
-    print_quadrature(rt, imhof::adaptive::integrate(weights, lo, hi, &mut parts))?;
+    let four = imhof::adaptive::integrate(weights, lo, hi, &mut parts);
+    print_integral(rt, four.map_err(|why| why.into()))?;
     print_head(rt, name, i, "records")?;
-    print_answer(rt, records::integrate(weights, lo, hi))
+    let records = records::integrate(weights, lo, hi);
+    print_integral(rt, records.map_err(|why| why.into()))
 }
 
-// On the own range of the first m weights of a run.
-fn try_weights(rt: &impl Print, i: usize, run: &[f64], m: usize) -> io::Result<()> {
-    if m > run.len() {
-        return Ok(());
-    }
-    if m > MAX_ROWS {
-        return Ok(());
-    }
-    let lo = weights::range::low_end(&run[..m]);
-    let hi = weights::range::high_end(&run[..m]);
-    try_range(rt, "sheet", i, &run[..m], lo, hi)
+// On the weights' own range.
+fn try_weights(rt: &impl Print, i: usize, weights: &[f64]) -> io::Result<()>
+    requires { length weights.now ≤ 256 }
+{
+    let lo = weights::range::low_end(weights);
+    let hi = weights::range::high_end(weights);
+    try_range(rt, "sheet", i, weights, lo, hi)
 }
 
-fn try_eigenvalues(
-    rt: &impl Print,
-    i: usize,
-    kept: &[f64],
-    count: usize,
-    d: f64,
-) -> io::Result<()> {
-    if count > kept.len() {
-        return Ok(());
-    }
-    if count > MAX_ROWS {
-        return Ok(());
-    }
+fn try_eigenvalues(rt: &impl Print, i: usize, kept: &[f64], d: f64) -> io::Result<()>
+    requires { length kept.now ≤ 256 }
+{
     let mut weights = [0.0f64; MAX_ROWS];
-    let m = weights::shift(&kept[..count], d, &mut weights);
-    try_weights(rt, i, &weights, m)
+    let m = weights::shift(kept, d, &mut weights);
+    try_weights(rt, i, &weights[..m])
 }
 
-fn try_spectrum(
-    rt: &impl Print,
-    i: usize,
-    columns: &[f64],
-    size: SheetSize,
-    inverse: Matrix,
-    d: f64,
-) -> io::Result<()>
-    requires { (size.rows ≤ 64) × (size.columns ≤ size.rows) × Design size columns.now }
+fn try_spectrum(rt: &impl Print, i: usize, sheet: Sheet, inverse: Matrix, d: f64) -> io::Result<()>
+    requires { (sheet.size.rows ≤ 64) × (sheet.size.columns ≤ sheet.size.rows) }
 {
     let mut room = [0.0f64; MATRIX_ROOM];
     let mut kept = [0.0f64; MAX_ROWS];
-    let spectrum = eigen::ma_eigenvalues(columns, size, inverse, &mut room, &mut kept);
-    if let Spectrum::Kept(s) = spectrum {
-        try_eigenvalues(rt, i, &kept, s.count, d)?;
+    let spectrum = eigen::ma_eigenvalues(sheet.run, sheet.size, inverse, &mut room, &mut kept);
+    if let Ok(s) = spectrum {
+        if let Some(kept) = kept.get(..s.count) {
+            try_eigenvalues(rt, i, kept, d)?;
+        }
     }
     Ok(())
 }
 
-fn try_sound(rt: &impl Print, i: usize, columns: &[f64], size: SheetSize, d: f64) -> io::Result<()>
-    requires { Design size columns.now }
-{
-    if size.rows > ROWS {
-        return Ok(());
-    }
-    if size.columns >= size.rows {
+fn try_sheet(rt: &impl Print, i: usize, sheet: Sheet, d: f64) -> io::Result<()> {
+    if sheet.size.rows > ROWS || sheet.size.columns >= sheet.size.rows {
         return Ok(());
     }
     let mut l = [[0.0f64; MAX_COLUMNS]; MAX_COLUMNS];
-    let pivots = design::factor(columns, size, &mut l);
-    if let Pivots::Hold = pivots {
-        try_spectrum(
-            rt,
-            i,
-            columns,
-            size,
-            design::inverse_of_factor(l, size.columns),
-            d,
-        )?;
-    }
-    Ok(())
-}
-
-fn try_design(
-    rt: &impl Print,
-    i: usize,
-    columns: &[f64],
-    n: usize,
-    k: usize,
-    d: f64,
-) -> io::Result<()> {
-    let found = columns::check_columns(columns, n, k);
-    if let Columns::Sound(size) = found {
-        try_sound(rt, i, columns, size, d)?;
+    if design::factor(sheet, &mut l).is_ok() {
+        let inverse = design::inverse_of_factor(l, sheet.size.columns);
+        try_spectrum(rt, i, sheet, inverse, d)?;
     }
     Ok(())
 }
@@ -173,26 +118,25 @@ fn try_entry(rt: &impl Print, file: &[u8], i: usize, e: Entry) -> io::Result<()>
     let mut columns = [0.0f64; MOST_NUMBERS];
     let n = sheet::file::read_residuals(file, e, &mut residuals);
     let m = sheet::file::read_columns(file, e, &mut columns);
-    let statistic = autocorrelation::durbin_watson(&residuals[..n]);
-    if let Statistic::Value(d) = statistic {
-        try_design(rt, i, &columns[..m], n, e.columns as usize, d)?;
+    if let Ok(d) = autocorrelation::durbin_watson(&residuals[..n]) {
+        if let Ok(sheet) = Sheet::new(&columns[..m], n, e.columns as usize) {
+            try_sheet(rt, i, sheet, d)?;
+        }
     }
     Ok(())
 }
 
-fn try_entries(rt: &impl Print, file: &[u8], count: usize) -> io::Result<()> {
-    for i in 0..count {
-        if let Next::Sheet(e) = sheet::reader::read_entry(file, i) {
-            try_entry(rt, file, i, e)?;
-        }
+fn try_entries(rt: &impl Print, file: &[u8]) -> io::Result<()> {
+    for (i, e) in Reader::new(file).enumerate() {
+        try_entry(rt, file, i, e)?;
     }
     Ok(())
 }
 
 fn try_file(rt: &impl Print, file: &[u8]) -> io::Result<()> {
     match sheet::file::check_file(file) {
-        FileCheck::Accepted(count) => try_entries(rt, file, count),
-        FileCheck::Refused(refusal) => print_file_refusal(rt, refusal),
+        Ok(_) => try_entries(rt, file),
+        Err(refusal) => print_file_refusal(rt, refusal),
     }
 }
 

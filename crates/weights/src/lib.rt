@@ -13,8 +13,8 @@ pub fn shift(eigenvalues: &[f64], d: f64, weights: &mut [f64]) -> usize
     ensures weights_after { weights.new ≡ weights_of eigenvalues.now d ++ drop (length (weights_of eigenvalues.now d)) weights.old }
 {
     let mut m = 0;
-    for t in 0..eigenvalues.len() {
-        let w = eigenvalues[t] - d;
+    for x in eigenvalues {
+        let w = *x - d;
         if w != 0.0 {
             weights[m] = w;
             m += 1;
@@ -27,22 +27,12 @@ pub fn shift(eigenvalues: &[f64], d: f64, weights: &mut [f64]) -> usize
 pub fn all_above(weights: &[f64]) -> bool
     ensures { result ≡ all_above weights.now }
 {
-    for t in 0..weights.len() {
-        if !(weights[t] > 0.0) {
-            return false;
-        }
-    }
-    true
+    weights.iter().all(|w| *w > 0.0)
 }
 
 // Whether every weight is below 0.
 pub fn all_below(weights: &[f64]) -> bool
     ensures { result ≡ all_below weights.now }
 {
-    for t in 0..weights.len() {
-        if !(weights[t] < 0.0) {
-            return false;
-        }
-    }
-    true
+    weights.iter().all(|w| *w < 0.0)
 }

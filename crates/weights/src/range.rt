@@ -3,27 +3,22 @@ ghost use Rattle.std.specs.Prelude.{◌≡◌, ◌≤◌, length};
 ghost use Rattle.floats.specs.Limits.{max_rows};
 ghost use Rattle.weights.specs.Range.{half_abs_sum, half_log_prod, two_by_count, low_end, high_end};
 
+use elementary::ln;
+use floats::signs::abs;
+
 // A quarter of 1e-11.
 const CUT: f64 = 2.5e-12;
 
 fn half_abs_sum(weights: &[f64]) -> f64
     ensures { result ≡ half_abs_sum weights.now }
 {
-    let mut s = -0.0f64;
-    for t in 0..weights.len() {
-        s = s + floats::signs::abs(weights[t]);
-    }
-    0.5 * s
+    0.5 * weights.iter().fold(-0.0, |s, w| s + abs(*w))
 }
 
 fn half_log_prod(weights: &[f64]) -> f64
     ensures { result ≡ half_log_prod weights.now }
 {
-    let mut s = -0.0f64;
-    for t in 0..weights.len() {
-        s = s + elementary::ln(floats::signs::abs(weights[t]));
-    }
-    0.5 * s
+    0.5 * weights.iter().fold(-0.0, |s, w| s + ln(abs(*w)))
 }
 
 fn two_by_count(weights: &[f64]) -> f64
@@ -37,7 +32,7 @@ fn two_by_count(weights: &[f64]) -> f64
 pub fn low_end(weights: &[f64]) -> f64
     ensures { result ≡ low_end weights.now }
 {
-    elementary::ln(CUT / half_abs_sum(weights))
+    ln(CUT / half_abs_sum(weights))
 }
 
 // The integral from u on is at most (2 / m) u^(-m/2) / prod |w|^(1/2), m the number of weights.
@@ -46,5 +41,5 @@ pub fn high_end(weights: &[f64]) -> f64
     ensures { result ≡ high_end weights.now }
 {
     let t = two_by_count(weights);
-    t * (elementary::ln(t) - elementary::ln(CUT) - half_log_prod(weights))
+    t * (ln(t) - ln(CUT) - half_log_prod(weights))
 }

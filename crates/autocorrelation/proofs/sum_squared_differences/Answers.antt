@@ -1,24 +1,16 @@
-use Rattle.floats.specs.Words.{◌⊕◌}
-use Rattle.floats.specs.Sums.{sum_of}
-use lib.Ieee.{Float, neg, of_bits}
-use Prim.Native.Nat.{ℕ, ◌+◌, ◌-◌}
-use native.Mathlib.Omega.{arith}
-use native.Mathlib.Numerals.{add-one}
-use mathlib.Core.Path.{◌≡◌, refl}
-use lib.ListN.{length}
-use borrow.Author.Rules.{rules}
+use Rattle.std.proofs.Common.{rules, tests, ◌∙◌}
+use Rattle.std.proofs.lemmas.Iterator.{YieldsList-from_slice, YieldsList-from_zip}
+use Rattle.std.proofs.lemmas.Iterator.Consumers.{fold_from_yields_List}
+use lib.Ieee.{neg, of_bits}
+use Rattle.floats.specs.Words.{◌⊕◌, ◌⊖◌, square_of}
+use Rattle.autocorrelation.proofs.Neighbours.{later, fold-differences}
 use Rattle.autocorrelation.proofs.sum_squared_differences.Goals as goal
 
-one_more : (term : ℕ → Float) (t : ℕ) → sum_of (t + 1) term ≡ sum_of t term ⊕ term t
-unfolding sum_of
-one_more term t = rw add-one
-
-pub loop-t-init : goal.loop-t-init
-unfolding sum_of neg of_bits
-loop-t-init c = (omega arith, refl, refl)
-
-pub loop-t-preserved : goal.loop-t-preserved
-loop-t-preserved c = (omega arith, search rules, rw (one_more, ← c.loop-t.invariant.2))
-
 pub returns : goal.returns
-returns c = let h : c.loop-t.t ≡ length c.args.e.now - 1 = omega arith in cc
+unfolding neg of_bits
+returns c =
+    let e = c.args.e.now in
+    fold_from_yields_List _ (λ s p. s ⊕ square_of (p.1 ⊖ p.0)) _ c.fold.result c.fold.ensures.ran
+    (YieldsList-from_zip (YieldsList-from_slice e cc) (YieldsList-from_slice (later e) cc))
+    (λ a x b q k. search (rules, tests))
+    ∙ fold-differences e c.requires

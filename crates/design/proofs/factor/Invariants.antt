@@ -1,6 +1,6 @@
 -- The loop's invariant: the rows made so far are the factor's, and no pivot failed. The tests that the code makes are those of the definition once each call's result is put in. Assumes nothing.
-use Rattle.std.specs.Prelude.{None}
 use Rattle.floats.specs.Search.{first_where}
+use Rattle.std.specs.Prelude.{None}
 use Rattle.design.specs.Factor.{factor_of, fails_at}
 use Prim.Native.Nat.{◌≤◌}
 use mathlib.Core.Path.{◌≡◌}

@@ -1,23 +1,13 @@
-use Rattle.design.proofs.EveryLaws.{every-none, every_more, every-fails}
-use native.Mathlib.Omega.{arith}
-use mathlib.Core.Path.{◌≡◌, sym}
+use Rattle.std.proofs.Common.{rules, true, false, refl, ◌≡◌, arith}
+use Rattle.std.proofs.lemmas.Iterator.{cases_from_all, YieldsList-from_range}
+use borrow.Author.Tests.{tests}
+use lib.Ieee.Scale.{finite}
+use Rattle.design.specs.Matrix.{entry, every}
+use Rattle.design.proofs.EveryLaws.{every-all}
 use Rattle.design.proofs.inverse_is_finite.Goals as goal
 
-pub loop-i-init : goal.loop-i-init
-loop-i-init c = (omega arith, every-none _)
-
-pub loop-j-init : goal.loop-j-init
-loop-j-init c = (omega arith, every-none _)
-
-pub returns-then-not-is_finite : goal.returns-then-not-is_finite
-returns-then-not-is_finite c = let a = c.args in
-    sym (every-fails _ a.k c.loop-i-test.true (every-fails _ a.k c.loop-j-test.true (rw (← c.is_finite.ensures.value) c.if-not-is_finite.true)))
-
-pub loop-j-preserved : goal.loop-j-preserved
-loop-j-preserved c = (omega arith, every_more _ _ c.loop-j.invariant.1 (rw (← c.is_finite.ensures.value) c.if-not-is_finite.false))
-
-pub loop-i-preserved : goal.loop-i-preserved
-loop-i-preserved c = (omega arith, every_more _ _ c.loop-i.invariant.1 (let h : c.loop-j.j ≡ c.args.k = omega arith in rw h at c.loop-j.invariant.1))
-
 pub returns : goal.returns
-returns c = let h : c.loop-i.i ≡ c.args.k = omega arith in sym (rw h at c.loop-i.invariant.1)
+returns c =
+    let a = c.args in
+    every-all (λ i. every a.k (λ j. finite (entry a.inverse i j))) a.k c.all.result
+    (cases_from_all _ _ c.all.result (λ i. every a.k (λ j. finite (entry a.inverse i j)) ≡ true) (λ i. every a.k (λ j. finite (entry a.inverse i j)) ≡ false) c.all.ensures.ran (YieldsList-from_range 0 a.k a.k refl (omega arith)) (λ x q k. search (rules, tests)) (λ x q k. search (rules, tests)))

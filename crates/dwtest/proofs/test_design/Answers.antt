@@ -1,40 +1,65 @@
 use mathlib.Core.Path.{ap, sym, ◌∙◌}
 use lib.ListN.{length}
-use borrow.Author.Tests.{eq-eqb, ne_eqb}
-use Rattle.outcome.specs.Refusals.{passes}
+use Rattle.outcome.specs.Refusals.{passes, refusal_of, law_error}
 use Rattle.outcome.specs.Result.{refused_of}
 use Rattle.outcome.specs.Rooms.{room_of, part_room, cleared_of}
-use Rattle.dwtest.specs.Layout.{layout_from, layout_of}
-use Rattle.dwtest.specs.Verdict.{by_law, finish}
-use Rattle.dwtest.specs.Test.{way_of, said_by}
-use Rattle.dwtest.proofs.RoomLaws.{untouched}
-use Rattle.dwtest.proofs.TestLaws.{design-refused, design-passes}
+use Rattle.outcome.proofs.PassLaws.{reason-refuses}
+use Rattle.dwtest.specs.Layout.{layout_from}
+use Rattle.dwtest.specs.Verdict.{by_law}
+use Rattle.dwtest.specs.declared.verdict.Said.TheVariants.{Answered, LawDue}
+use Rattle.dwtest.proofs.TestLaws.{outcome-at, design-refused, design-said}
 use Rattle.dwtest.proofs.test_design.Goals as goal
 
-pub returns-then-why-ne0 : goal.returns-then-why-ne0
-returns-then-why-ne0 c = let args = c.args in
-    let invert = c.invert-why in
-    let s = design-refused room_of args.columns.now args.size.rows args.size.columns args.asked args.choice (length args.matrix.now) (length args.parts.now) (ap passes (sym invert.ensures.value) ∙ ne_eqb _ _ c.if-why-ne0.true) in
-    record { value = c.refused.ensures ∙ ap refused_of invert.ensures.value ∙ sym s.0; matrix_after = untouched _ (room_of args.size.rows) args.matrix.now s.1; parts_after = untouched _ part_room args.parts.now s.1 }
+pub returns-in_err-inverse-clause-value : goal.returns-in_err-inverse-clause-value
+returns-in_err-inverse-clause-value c = let a = c.args in
+    let why = c.in_err-inverse.field-0.0 in
+    let found = c.in_err-inverse.ensures.refusal in
+    let s = design-refused room_of a.sheet.run.now a.sheet.size.rows a.sheet.size.columns a.asked a.choice (length a.matrix.now) (length a.parts.now) (ap passes (sym found) ∙ reason-refuses why) in
+    outcome-at c.from_residual.result why c.from_residual.ensures.1 ∙ ap refused_of found ∙ sym s.0
 
-pub returns-in-Answered : goal.returns-in-Answered
-returns-in-Answered c = let args = c.args in
-    let invert = c.invert-why in
-    let if1 = c.if-why-ne0 in
-    let said_of = c.said_of-said in
-    let s = design-passes room_of args.columns.now args.size.rows args.size.columns args.asked args.choice (length args.matrix.now) (length args.parts.now) (ap passes (sym invert.ensures.value) ∙ eq-eqb _ _ if1.false) in
-    let inv = invert.ensures.inverse_after if1.false in
-    let law = (layout_of args.columns.now args.size.rows args.size.columns).law in
-    let told = sym (ap (λ i. said_by (way_of room_of args.size.rows args.choice (length args.matrix.now) (length args.parts.now)) (layout_from args.columns.now args.size.rows args.size.columns i) args.asked) inv) ∙ sym c.in-Answered.ensures.value in
-    record { value = sym (ap (finish law args.asked) told) ∙ sym s.0; matrix_after = said_of.ensures.matrix_after ∙ ap (λ b. cleared_of b (room_of args.size.rows) args.matrix.now) (sym s.1); parts_after = said_of.ensures.parts_after ∙ ap (λ b. cleared_of b part_room args.parts.now) (sym s.1) }
+pub returns-in_err-outcome-clause-value : goal.returns-in_err-outcome-clause-value
+returns-in_err-outcome-clause-value c = let a = c.args in
+    let why = c.in_err-outcome.field-0.0 in
+    let s = design-said room_of a.sheet.run.now a.sheet.size.rows a.sheet.size.columns a.asked a.choice (length a.matrix.now) (length a.parts.now) c.in_ok-inverse.inverse (Answered (refused_of (refusal_of why))) c.in_ok-inverse.ensures.refusal c.in_ok-inverse.ensures.inverse c.in_err-outcome.ensures.value in
+    outcome-at c.from_residual-in_err-outcome.result why c.from_residual-in_err-outcome.ensures.1 ∙ sym s.0
 
-pub returns-in-LawDue : goal.returns-in-LawDue
-returns-in-LawDue c = let args = c.args in
-    let invert = c.invert-why in
-    let if1 = c.if-why-ne0 in
-    let said_of = c.said_of-said in
-    let s = design-passes room_of args.columns.now args.size.rows args.size.columns args.asked args.choice (length args.matrix.now) (length args.parts.now) (ap passes (sym invert.ensures.value) ∙ eq-eqb _ _ if1.false) in
-    let inv = invert.ensures.inverse_after if1.false in
-    let law = (layout_of args.columns.now args.size.rows args.size.columns).law in
-    let told = sym (ap (λ i. said_by (way_of room_of args.size.rows args.choice (length args.matrix.now) (length args.parts.now)) (layout_from args.columns.now args.size.rows args.size.columns i) args.asked) inv) ∙ sym c.in-LawDue.ensures.value in
-    record { value = c.by_law.ensures ∙ ap (λ l. by_law l args.asked c.in-LawDue.left) (c.law_of.ensures ∙ ap (λ i. (layout_from args.columns.now args.size.rows args.size.columns i).law) inv) ∙ sym (ap (finish law args.asked) told) ∙ sym s.0; matrix_after = said_of.ensures.matrix_after ∙ ap (λ b. cleared_of b (room_of args.size.rows) args.matrix.now) (sym s.1); parts_after = said_of.ensures.parts_after ∙ ap (λ b. cleared_of b part_room args.parts.now) (sym s.1) }
+pub returns-in_err-outcome-clause-parts_after : goal.returns-in_err-outcome-clause-parts_after
+returns-in_err-outcome-clause-parts_after c = let a = c.args in
+    let why = c.in_err-outcome.field-0.0 in
+    let s = design-said room_of a.sheet.run.now a.sheet.size.rows a.sheet.size.columns a.asked a.choice (length a.matrix.now) (length a.parts.now) c.in_ok-inverse.inverse (Answered (refused_of (refusal_of why))) c.in_ok-inverse.ensures.refusal c.in_ok-inverse.ensures.inverse c.in_err-outcome.ensures.value in
+    c.in_err-outcome.ensures.parts_after ∙ ap (λ b. cleared_of b part_room a.parts.now) (sym s.1)
+
+pub returns-in_err-law-in-LawDue-clause-value : goal.returns-in_err-law-in-LawDue-clause-value
+returns-in_err-law-in-LawDue-clause-value c = let a = c.args in
+    let said = c.in-LawDue in
+    let found = c.in_err-law-in-LawDue.ensures ∙ ap (λ i. (layout_from a.sheet.run.now a.sheet.size.rows a.sheet.size.columns i).law) c.in_ok-inverse.ensures.inverse in
+    let s = design-said room_of a.sheet.run.now a.sheet.size.rows a.sheet.size.columns a.asked a.choice (length a.matrix.now) (length a.parts.now) c.in_ok-inverse.inverse (LawDue said.left) c.in_ok-inverse.ensures.refusal c.in_ok-inverse.ensures.inverse (sym said.is ∙ c.in_ok-outcome.ensures.value) in
+    outcome-at c.from_residual-in_err-law-in-LawDue.result (law_error c.in_err-law-in-LawDue.field-0.0) c.from_residual-in_err-law-in-LawDue.ensures.1 ∙ ap (λ l. by_law l a.asked said.left) found ∙ sym s.0
+
+pub returns-in_err-law-in-LawDue-clause-parts_after : goal.returns-in_err-law-in-LawDue-clause-parts_after
+returns-in_err-law-in-LawDue-clause-parts_after c = let a = c.args in
+    let s = design-said room_of a.sheet.run.now a.sheet.size.rows a.sheet.size.columns a.asked a.choice (length a.matrix.now) (length a.parts.now) c.in_ok-inverse.inverse c.in_ok-outcome.field-0 c.in_ok-inverse.ensures.refusal c.in_ok-inverse.ensures.inverse c.in_ok-outcome.ensures.value in
+    c.in_ok-outcome.ensures.parts_after ∙ ap (λ b. cleared_of b part_room a.parts.now) (sym s.1)
+
+pub returns-in-Answered-clause-value : goal.returns-in-Answered-clause-value
+returns-in-Answered-clause-value c = let a = c.args in
+    let said = c.in-Answered in
+    let s = design-said room_of a.sheet.run.now a.sheet.size.rows a.sheet.size.columns a.asked a.choice (length a.matrix.now) (length a.parts.now) c.in_ok-inverse.inverse (Answered said.outcome) c.in_ok-inverse.ensures.refusal c.in_ok-inverse.ensures.inverse (sym said.is ∙ c.in_ok-outcome.ensures.value) in
+    sym s.0
+
+pub returns-in-Answered-clause-parts_after : goal.returns-in-Answered-clause-parts_after
+returns-in-Answered-clause-parts_after c = let a = c.args in
+    let s = design-said room_of a.sheet.run.now a.sheet.size.rows a.sheet.size.columns a.asked a.choice (length a.matrix.now) (length a.parts.now) c.in_ok-inverse.inverse c.in_ok-outcome.field-0 c.in_ok-inverse.ensures.refusal c.in_ok-inverse.ensures.inverse c.in_ok-outcome.ensures.value in
+    c.in_ok-outcome.ensures.parts_after ∙ ap (λ b. cleared_of b part_room a.parts.now) (sym s.1)
+
+pub returns-in_ok-law-in-LawDue-clause-value : goal.returns-in_ok-law-in-LawDue-clause-value
+returns-in_ok-law-in-LawDue-clause-value c = let a = c.args in
+    let said = c.in-LawDue in
+    let found = c.in_ok-law-in-LawDue.ensures ∙ ap (λ i. (layout_from a.sheet.run.now a.sheet.size.rows a.sheet.size.columns i).law) c.in_ok-inverse.ensures.inverse in
+    let s = design-said room_of a.sheet.run.now a.sheet.size.rows a.sheet.size.columns a.asked a.choice (length a.matrix.now) (length a.parts.now) c.in_ok-inverse.inverse (LawDue said.left) c.in_ok-inverse.ensures.refusal c.in_ok-inverse.ensures.inverse (sym said.is ∙ c.in_ok-outcome.ensures.value) in
+    c.by_law.ensures ∙ ap (λ l. by_law l a.asked said.left) found ∙ sym s.0
+
+pub returns-in_ok-law-in-LawDue-clause-parts_after : goal.returns-in_ok-law-in-LawDue-clause-parts_after
+returns-in_ok-law-in-LawDue-clause-parts_after c = let a = c.args in
+    let s = design-said room_of a.sheet.run.now a.sheet.size.rows a.sheet.size.columns a.asked a.choice (length a.matrix.now) (length a.parts.now) c.in_ok-inverse.inverse c.in_ok-outcome.field-0 c.in_ok-inverse.ensures.refusal c.in_ok-inverse.ensures.inverse c.in_ok-outcome.ensures.value in
+    c.in_ok-outcome.ensures.parts_after ∙ ap (λ b. cleared_of b part_room a.parts.now) (sym s.1)

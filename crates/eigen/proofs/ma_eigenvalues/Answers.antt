@@ -7,35 +7,36 @@ use Rattle.floats.specs.Matrix.{entry, whole, half_of}
 use Rattle.floats.proofs.MatrixLaws.{length-symmetric, is-symmetric}
 use Rattle.floats.proofs.HalfLaws.{triangle-twice, length-half, whole-half}
 use Rattle.projection.specs.Projection.{product, mam_of}
-use Rattle.eigen.proofs.SpectrumLaws.{matrix-bad, matrix-good}
+use Rattle.eigen.proofs.SpectrumLaws.{found-some, found-none, matrix-bad, matrix-good}
 use Rattle.eigen.proofs.ma_eigenvalues.Goals as goal
 
-pub mam-found-requires : goal.mam-found-requires
-mam-found-requires c = let pre = c.requires in (pre.2, pre.0)
+pub mam-requires : goal.mam-requires
+mam-requires c = let pre = c.requires in (pre.2, pre.0)
 
 pub slice_bounds-delivered-end : goal.slice_bounds-delivered-end
 slice_bounds-delivered-end c = simp (length-take, length-replicate) (omega arith)
 
-pub slice_bounds-delivered-end-in-None : goal.slice_bounds-delivered-end-in-None
-slice_bounds-delivered-end-in-None c = simp (length-take, length-replicate) (omega arith)
+pub slice_bounds-delivered-end-2 : goal.slice_bounds-delivered-end-2
+slice_bounds-delivered-end-2 c = simp (length-take, length-replicate) (omega arith)
 
 pub delivered-requires : goal.delivered-requires
 delivered-requires c = let pre = c.requires in
-    (omega (arith, c.mam-found.auto.room, triangle-twice c.args.size.rows, pre.2), pre.0.0, pre.1, simp (length-take, length-replicate) (omega (arith, pre.0.0)), simp (length-take, length-replicate) (omega (arith, pre.0.0)), pre.3)
+    (omega (arith, c.mam.auto.room, triangle-twice c.args.size.rows, pre.2), pre.0.0, pre.1, simp (length-take, length-replicate) (omega (arith, pre.0.0)), simp (length-take, length-replicate) (omega (arith, pre.0.0)), pre.3)
 
-pub returns-in-Some : goal.returns-in-Some
-returns-in-Some c = let args = c.args in
-    let mam = c.mam-found in
-    let z = matrix-bad args.columns.now args.inverse args.size.rows args.size.columns _ (sym mam.ensures.value ∙ c.in-Some.is) in record { value = sym z.0; kept_after = rw z.1 refl; room_after = rw z.2 mam.ensures.room_after }
+pub returns-then-is_some : goal.returns-then-is_some
+returns-then-is_some c = let args = c.args in
+    let mam = c.mam in
+    let s = found-some _ (sym c.is_some.ensures ∙ c.if-is_some.true) in
+    let z = matrix-bad args.columns.now args.inverse args.size.rows args.size.columns s.0 (sym mam.ensures.value ∙ s.1) in record { value = sym z.0; kept_after = rw z.1 refl; room_after = rw z.2 mam.ensures.room_after }
 
-pub returns-in-None : goal.returns-in-None
-returns-in-None c = let args = c.args in
-    let mam = c.mam-found in
+pub returns : goal.returns
+returns c = let args = c.args in
+    let mam = c.mam in
     let delivered = c.delivered in
     let p = product args.columns.now args.inverse args.size.rows args.size.columns in
     let m = mam_of args.columns.now args.inverse args.size.rows args.size.columns in
     let o = length-half (entry args.size.rows m) args.size.rows in
     let f : whole args.size.rows (take (triangle args.size.rows) mam.new.room) ≡ m = ap (λ l. whole args.size.rows (take (triangle args.size.rows) l)) mam.ensures.room_after ∙ ap (whole args.size.rows) (take_at (half_of args.size.rows m) _ (triangle args.size.rows) o) ∙ whole-half args.size.rows m (length-symmetric args.size.rows p) (is-symmetric args.size.rows p) in
     let g = ap (drop (triangle args.size.rows)) mam.ensures.room_after ∙ drop_at (half_of args.size.rows m) _ (triangle args.size.rows) o in
-    let z = matrix-good args.columns.now args.inverse args.size.rows args.size.columns (sym mam.ensures.value ∙ c.in-None.is) in
+    let z = matrix-good args.columns.now args.inverse args.size.rows args.size.columns (sym mam.ensures.value ∙ found-none _ (sym c.is_some.ensures ∙ c.if-is_some.false)) in
     record { value = delivered.ensures.value ∙ rw f (sym z.0); kept_after = rw z.1 (rw f at delivered.ensures.kept_after); room_after = rw z.2 (rw (f, g) at delivered.ensures.room_after) }

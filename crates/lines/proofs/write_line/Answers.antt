@@ -5,4 +5,4 @@ use Rattle.lines.proofs.write_line.Goals as goal
 
 pub returns : goal.returns
 unfolding table among
-returns c = rw c.fields_of-words.ensures at c.write_words.ensures
+returns c = rw c.fields_of.ensures at c.write_words.ensures

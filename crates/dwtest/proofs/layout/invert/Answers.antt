@@ -1,20 +1,18 @@
 use mathlib.Core.Path.{ap, sym, ◌∙◌}
-use borrow.Author.Tests.{eq-eqb, ne_eqb}
-use Rattle.design.specs.Factor.{factor_of, rows_made}
+use Rattle.std.proofs.lemmas.Result.{err_from_is_err_and}
 use Rattle.design.specs.Inverse.{inverse_from}
-use Rattle.outcome.specs.Refusals.{passes, first_of, pivots_refusal, inverse_refusal}
-use Rattle.outcome.proofs.PassLaws.{pivots-hold}
+use Rattle.design.specs.Factor.{factor_of, rows_made}
+use Rattle.outcome.specs.Refusals.{inverse_refusal, first_of}
 use Rattle.dwtest.proofs.TestLaws.{past-pivots}
 use Rattle.dwtest.proofs.layout.invert.Goals as goal
 
-pub returns-then-pivots-ne0 : goal.returns-then-pivots-ne0
+pub returns-in_err-factor-clause-refusal : goal.returns-in_err-factor-clause-refusal
 unfolding first_of
-returns-then-pivots-ne0 c = record { value = rw (← c.factor.ensures.value, ← c.of_pivots-pivots.ensures, ne_eqb _ _ c.if-pivots-ne0.true); inverse_after = λ z. absurd (c.if-pivots-ne0.true z) }
+returns-in_err-factor-clause-refusal c =
+    let p = err_from_is_err_and c.from_residual.result c.from_residual.ensures.1 in rw (p.1, p.2, ← c.in_err-factor.ensures.value)
 
-pub returns : goal.returns
-returns c = let args = c.args in
-    let factor = c.factor in
-    let of-pivots = c.of_pivots-pivots in
-    let hold = pivots-hold _ (ap (λ p. passes (pivots_refusal p)) (sym factor.ensures.value) ∙ ap passes (sym of-pivots.ensures) ∙ eq-eqb _ _ c.if-pivots-ne0.false) in
-    let inv = c.inverse_of_factor.ensures ∙ ap (λ z. inverse_from z args.size.columns) (factor.ensures.l_after ∙ ap (λ p. factor_of args.columns.now args.size.rows (rows_made args.size.columns p)) hold) in
-    record { value = c.of_inverse.ensures ∙ ap (inverse_refusal args.size.columns) inv ∙ sym (past-pivots args.columns.now args.size.rows args.size.columns hold); inverse_after = λ z. inv }
+pub returns-clause-refusal : goal.returns-clause-refusal
+returns-clause-refusal c = let args = c.args in
+    let hold = sym c.in_ok-factor.ensures.value in
+    let inv = c.inverse_of_factor.ensures ∙ ap (λ z. inverse_from z args.sheet.size.columns) (c.in_ok-factor.ensures.l_after ∙ ap (λ p. factor_of args.sheet.run.now args.sheet.size.rows (rows_made args.sheet.size.columns p)) hold) in
+    c.check_inverse.ensures.refusal ∙ ap (inverse_refusal args.sheet.size.columns) inv ∙ sym (past-pivots args.sheet.run.now args.sheet.size.rows args.sheet.size.columns hold)

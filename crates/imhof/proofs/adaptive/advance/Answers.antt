@@ -23,8 +23,8 @@ returns-then-not-are_finite c = let f = integrand_of c.args.weights.now in
     let ps = parts_in c.args.n r in
     let more : le (sum_run (errors_of ps)) tolerance ≡ false = rw (← c.error_sum.ensures) c.if-error_sum.false in
     let place : part_at ps (worst_of ps) ≡ c.part_at.result = rw (← c.worst-w.ensures.value) (part_in c.args.n c.worst-w.result r c.worst-w.ensures.bound ∙ sym c.part_at.ensures) in
-    let left : left_half f (part_at ps (worst_of ps)) ≡ c.bisect-h.result.left = ap (left_half f) place ∙ sym c.bisect-h.ensures.0 in
-    let right : right_half f (part_at ps (worst_of ps)) ≡ c.bisect-h.result.right = ap (right_half f) place ∙ sym c.bisect-h.ensures.1 in
+    let left : left_half f (part_at ps (worst_of ps)) ≡ c.bisect-h.result.left = ap (left_half f) place ∙ sym c.bisect-h.ensures.left in
+    let right : right_half f (part_at ps (worst_of ps)) ≡ c.bisect-h.result.right = ap (right_half f) place ∙ sym c.bisect-h.ensures.right in
     let broken : finite_part (left_half f (part_at ps (worst_of ps))) && finite_part (right_half f (part_at ps (worst_of ps))) ≡ false =
     ap₂ (λ p q. finite_part p && finite_part q) left right ∙ sym c.are_finite.ensures ∙ c.if-not-are_finite.true in
     record { value = λ t. sym (ap (λ s. s.standing) (next-refused f ps t more broken)); parts_after = λ t. sym (ap (λ s. laid_out s.parts r) (next-refused f ps t more broken) ∙ laid_in c.args.n r) }
@@ -38,8 +38,8 @@ returns c = let f = integrand_of c.args.weights.now in
     let ps = parts_in c.args.n r in
     let more : le (sum_run (errors_of ps)) tolerance ≡ false = rw (← c.error_sum.ensures) c.if-error_sum.false in
     let place : part_at ps (worst_of ps) ≡ c.part_at.result = rw (← c.worst-w.ensures.value) (part_in c.args.n c.worst-w.result r c.worst-w.ensures.bound ∙ sym c.part_at.ensures) in
-    let left : left_half f (part_at ps (worst_of ps)) ≡ c.bisect-h.result.left = ap (left_half f) place ∙ sym c.bisect-h.ensures.0 in
-    let right : right_half f (part_at ps (worst_of ps)) ≡ c.bisect-h.result.right = ap (right_half f) place ∙ sym c.bisect-h.ensures.1 in
+    let left : left_half f (part_at ps (worst_of ps)) ≡ c.bisect-h.result.left = ap (left_half f) place ∙ sym c.bisect-h.ensures.left in
+    let right : right_half f (part_at ps (worst_of ps)) ≡ c.bisect-h.result.right = ap (right_half f) place ∙ sym c.bisect-h.ensures.right in
     let fine : finite_part (left_half f (part_at ps (worst_of ps))) && finite_part (right_half f (part_at ps (worst_of ps))) ≡ true =
     ap₂ (λ p q. finite_part p && finite_part q) left right ∙ sym c.are_finite.ensures ∙ c.if-not-are_finite.false in
     let split : laid_out (without c.worst-w.result ps ++ (c.bisect-h.result.left ∷ c.bisect-h.result.right ∷ [])) r ≡ laid_out (without (worst_of ps) ps ++ (left_half f (part_at ps (worst_of ps)) ∷ right_half f (part_at ps (worst_of ps)) ∷ [])) r =

@@ -2,14 +2,13 @@ use mathlib.Core.List.{List}
 use lib.Ieee.{Float}
 use Rattle.imhof.specs.declared.Standing.TheVariants.{Open}
 use Rattle.imhof.specs.Integrand.{integrand_of}
-use Rattle.imhof.specs.Parts.{most_parts, Stage, stage, one_rule}
-use Rattle.imhof.specs.Room.{PartRoom, parts_in}
+use Rattle.imhof.specs.Parts.{Stage, stage, one_rule}
+use Rattle.imhof.specs.Room.{parts_in}
 use Rattle.imhof.specs.Rule.{rule_size}
 use Rattle.floats.specs.Count.{no_work}
 use Rattle.imhof.proofs.HeldLaws.{Held}
-use Prim.Native.Nat.{◌≤◌, ◌<◌, ◌-◌, ◌*◌, ◌+◌}
+use Prim.Native.Nat.{◌*◌, ◌+◌}
 use mathlib.Core.Path.{◌≡◌}
-use lib.ListN.{length}
 use Rattle.imhof.proofs.adaptive.refine.Given as goal
 
 -- the room's first part
@@ -17,7 +16,4 @@ abbrev pub first : List Float → Stage
 first r = stage (parts_in 1 r) (one_rule no_work) Open
 
 abbrev pub invariant-loop-n : goal.invariant-loop-n
-invariant-loop-n l = (0 < l.n) × (l.n ≤ most_parts) × (length l.parts ≡ length l.initial.parts) × PartRoom l.initial.parts × (l.tally.bisections + 1 ≡ l.n) × (l.tally.evaluations + rule_size ≡ 2 * rule_size * l.n) × Held (integrand_of l.weights) (first l.initial.parts) l.initial.parts l.parts l.tally l.n
-
-abbrev pub decreases-loop-n : goal.decreases-loop-n
-decreases-loop-n l = most_parts - l.n
+invariant-loop-n l = (l.tally.bisections + 1 ≡ l.n) × (l.tally.evaluations + rule_size ≡ 2 * rule_size * l.n) × Held (integrand_of l.weights) (first l.initial.parts) l.initial.parts l.parts l.tally l.n

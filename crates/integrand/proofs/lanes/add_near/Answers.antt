@@ -1,33 +1,30 @@
 use Prim.Native.Nat.{◌<◌}
+use lib.Ieee.{nan}
+use lib.ListN.{length}
 use native.Mathlib.Omega.{arith}
 use mathlib.Core.Path.{◌∙◌}
-use lib.ListN.{length, length-set}
-use lib.Ieee.{nan}
 use Rattle.floats.proofs.RowLaws.{filled_none, filled-here, filled_more, filled-all}
-use borrow.Author.Rules.{rules}
+use Rattle.elementary.specs.Points.{points}
 use Rattle.integrand.proofs.lanes.add_near.Goals as goal
 
 pub loop-j-init : goal.loop-j-init
-loop-j-init c = (omega arith, search rules, search rules, filled_none _ _, filled_none _ _)
+loop-j-init c = record { angles = filled_none _ _; logs = filled_none _ _ }
 
 pub place-i-requires : goal.place-i-requires
-place-i-requires c = c.requires.near c.loop-j.j (search rules)
+place-i-requires c = c.requires c.loop-j.j (omega (arith, c.told-u))
 
 pub loop-j-preserved : goal.loop-j-preserved
+unfolding points
 loop-j-preserved c = let l = c.loop-j in
-    let s = c.args in
-    let h : l.j < length s.angles.now = search rules in
-    let k : l.j < length s.logs.now = search rules in
-    let place = c.place-i.ensures.value in (
-      omega arith,
-      simp length-set l.invariant.1,
-      simp length-set l.invariant.2,
-      rw (c.signed.ensures, c.angle_near.ensures, place, l.invariant.3, filled-here _ _ _ nan h) (filled_more _ _ _ nan h),
-      rw (c.log_near.ensures, place, l.invariant.4, filled-here _ _ _ nan k) (filled_more _ _ _ nan k),
-    )
+    let h : l.j < length c.args.angles.now = omega (arith, c.told-angles) in
+    let k : l.j < length c.args.logs.now = omega (arith, c.told-logs) in
+    record {
+      angles = rw (c.signed.ensures, c.angle_near.ensures, c.place-i.ensures.value, l.invariant.angles, filled-here _ _ _ nan h) (filled_more _ _ _ nan h);
+      logs = rw (c.log_near.ensures, c.place-i.ensures.value, l.invariant.logs, filled-here _ _ _ nan k) (filled_more _ _ _ nan k);
+    }
 
 pub returns : goal.returns
 returns c = record {
-  angles_after = c.loop-j.invariant.3 ∙ filled-all _ _ _ (search rules) (search rules) ∙ rw c.requires.lengths.2;
-  logs_after = c.loop-j.invariant.4 ∙ filled-all _ _ _ (search rules) (search rules) ∙ rw c.requires.lengths.3;
+  angles_after = c.loop-j.invariant.angles ∙ filled-all _ _ _ (omega (arith, c.told-angles)) (omega (arith, c.told-angles)) ∙ rw c.told-angles;
+  logs_after = c.loop-j.invariant.logs ∙ filled-all _ _ _ (omega (arith, c.told-logs)) (omega (arith, c.told-logs)) ∙ rw c.told-logs;
 }

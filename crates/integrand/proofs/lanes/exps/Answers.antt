@@ -1,19 +1,18 @@
 use Prim.Native.Nat.{◌<◌}
+use lib.Ieee.{nan}
+use lib.ListN.{length}
 use native.Mathlib.Omega.{arith}
 use mathlib.Core.Path.{◌∙◌}
-use lib.ListN.{length, length-set}
-use lib.Ieee.{nan}
 use Rattle.floats.proofs.RowLaws.{filled_none, filled-here, filled_more, filled-all}
-use borrow.Author.Rules.{rules}
 use Rattle.integrand.proofs.lanes.exps.Goals as goal
 
-pub loop-j-init : goal.loop-j-init
-loop-j-init c = (omega arith, search rules, filled_none _ _)
+pub loop-x-init : goal.loop-x-init
+loop-x-init c = filled_none _ _
 
-pub loop-j-preserved : goal.loop-j-preserved
-loop-j-preserved c = let l = c.loop-j in
-    let h : l.j < length c.args.x.now = search rules in
-    (omega arith, simp length-set l.invariant.1, rw (c.exp.ensures, l.invariant.2, filled-here _ _ _ nan h) (filled_more _ _ _ nan h))
+pub loop-x-preserved : goal.loop-x-preserved
+loop-x-preserved c = let l = c.loop-x in
+    let h : l.x-index < length c.args.xs.now = omega (arith, c.told-xs) in
+    rw (c.exp.ensures, l.invariant, filled-here _ _ _ nan h) (filled_more _ _ _ nan h)
 
 pub returns : goal.returns
-returns c = c.loop-j.invariant.2 ∙ filled-all _ _ _ (search rules) (search rules) ∙ rw c.requires
+returns c = c.loop-x.invariant ∙ filled-all _ _ _ (omega (arith, c.told-xs)) (omega (arith, c.told-xs)) ∙ rw c.told-xs

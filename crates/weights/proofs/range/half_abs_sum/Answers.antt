@@ -1,19 +1,13 @@
-use Rattle.floats.specs.Sums.{sum_of}
-use lib.Ieee.{neg, of_bits}
-use native.Mathlib.Omega.{arith}
-use native.Mathlib.Numerals.{add-one}
-use mathlib.Core.Path.{◌≡◌, refl}
-use lib.ListN.{length}
-use borrow.Author.Rules.{rules}
+use Rattle.std.proofs.Common.{rules, ◌≡◌, Float, ap, ◌∙◌}
+use Rattle.std.proofs.lemmas.Iterator.Consumers.{fold_from_yields_List}
+use Rattle.std.proofs.lemmas.Iterator.{YieldsList-from_slice}
+use Rattle.std.specs.List.{fold}
+use Rattle.floats.specs.Signs.{abs_of}
+use Rattle.floats.specs.Words.{◌⊕◌, ◌⊗◌, minus_zero}
+use Rattle.elementary.specs.Patterns.{half}
+use Rattle.weights.proofs.WeightLaws.{fold-sum}
 use Rattle.weights.proofs.range.half_abs_sum.Goals as goal
 
-pub loop-t-init : goal.loop-t-init
-unfolding sum_of neg of_bits
-loop-t-init c = (omega arith, refl, refl)
-
-pub loop-t-preserved : goal.loop-t-preserved
-unfolding sum_of
-loop-t-preserved c = (omega arith, search rules, rw (add-one, c.abs-s.ensures) (cc))
-
 pub returns : goal.returns
-returns c = let h : c.loop-t.t ≡ length c.args.weights.now = omega arith in cc
+returns c = let folded : c.fold.result ≡ fold (λ s w. s ⊕ abs_of w) minus_zero c.args.weights.now = fold_from_yields_List _ (λ s w. s ⊕ abs_of w) minus_zero c.fold.result c.fold.ensures.ran (YieldsList-from_slice c.args.weights.now cc) (λ a x b q h. search (rules, h)) in
+    ap (λ (s : Float). half ⊗ s) (folded ∙ fold-sum (abs_of) c.args.weights.now)

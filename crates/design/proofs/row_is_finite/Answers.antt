@@ -1,0 +1,13 @@
+use Rattle.std.proofs.Common.{rules, true, false, refl, ◌≡◌, arith}
+use Rattle.std.proofs.lemmas.Iterator.{cases_from_all, YieldsList-from_range}
+use borrow.Author.Tests.{tests}
+use lib.Ieee.Scale.{finite}
+use Rattle.design.specs.Matrix.{entry}
+use Rattle.design.proofs.EveryLaws.{every-all}
+use Rattle.design.proofs.row_is_finite.Goals as goal
+
+pub returns : goal.returns
+returns c =
+    let a = c.args in
+    every-all (λ j. finite (entry a.inverse.now a.i j)) a.k c.all.result
+    (cases_from_all _ _ c.all.result (λ j. finite (entry a.inverse.now a.i j) ≡ true) (λ j. finite (entry a.inverse.now a.i j) ≡ false) c.all.ensures.ran (YieldsList-from_range 0 a.k a.k refl (omega arith)) (λ x q k. search (rules, tests)) (λ x q k. search (rules, tests)))

@@ -1,9 +1,0 @@
--- Each call's result is put in; then the products of columns of the room are those of A X, which it holds. Assumes nothing.
-use Rattle.design.specs.Law.{law_from}
-use Rattle.design.proofs.CrossLaws.{cross-is, squares-are}
-use Rattle.design.proofs.traces.law_in.Goals as goal
-
-pub returns : goal.returns
-unfolding law_from
-returns c = let a = c.args in
-    rw (c.law_by.ensures, c.trace_of_product-2.ensures, c.trace_of_product.ensures, c.trace.ensures, c.cross-c.ensures, c.product-b.ensures, c.cross.ensures) (rw (cross-is a.columns.now a.size.rows a.size.columns c.difference_columns.new.differences c.difference_columns.ensures.by_index, squares-are a.columns.now a.size.rows a.size.columns c.difference_columns.new.differences c.difference_columns.ensures.by_index))
