@@ -1,44 +1,82 @@
 -- What one comparison of an insertion does to the list; how long the lists are; what is kept of a longer list. Assumes nothing.
 use mathlib.Core.Path.{◌≡◌, refl, sym, ap, ◌∙◌}
-use mathlib.Core.Bool.{Bool, true, false, cond}
-use Prim.Native.Nat.{ℕ, zero, suc, ◌+◌, ◌≤◌, ◌<◌}
+use mathlib.Core.Bool.{Bool, true, false, not, cond}
+use Prim.Native.Nat.{ℕ, zero, suc, ◌+◌, ◌-◌, ◌≤◌, ◌<◌}
+use native.Mathlib.Nat.{le_antisymm}
 use native.Mathlib.Numerals.{add-one}
 use native.Mathlib.Omega.{arith}
 use mathlib.Core.List.{List, [], ◌∷◌, ◌++◌, append-nil}
 use lib.ListN.{length, take, drop, set}
 use lib.Seq.{slice, slice-cons, slice_empty, take-suc, take-suc-set, drop-set-lt, take-set-lt, append_snoc, set_split, drop-cons, set_at, take_at, get_or_at}
 use lib.Ieee.{Float, nan, lt}
+use Rattle.std.specs.Prelude.{Option, Some, None, position, nat_lt}
+use Rattle.std.specs.List.{position_or_len}
+use Rattle.std.specs.Option.{unwrap_or}
+use Rattle.std.proofs.lemmas.List.{get_or-drop, drop-drop, drop-take, take-take, length-take, length-drop, drop_at, append_assoc}
+use Rattle.std.proofs.lemmas.Bool.{ltb-false}
 use Rattle.floats.specs.Words.{◌‼◌}
 use Rattle.floats.specs.Signs.{before}
 use Rattle.eigen.specs.Kept.{insert, falling, kept_above, large}
 
--- ---- an insertion, one place on
+-- ---- an insertion
 
-module _ (d : List Float) (p i : ℕ) (x : Float) (h : p < i) (k : i ≤ length d) where
-  next : insert x (slice p i d) ≡ cond (before (d ‼ p) x) (x ∷ slice p i d) (d ‼ p ∷ insert x (slice (suc p) i d))
-  unfolding insert
-  next = rw (slice-cons p i d nan h k)
-
-  -- x belongs here, or further on
-  pub insert-here : before (d ‼ p) x ≡ true → insert x (slice p i d) ≡ x ∷ slice p i d
-  insert-here b = next ∙ rw b
-
-  pub insert-on : before (d ‼ p) x ≡ false → take p d ++ insert x (slice p i d) ≡ take (p + 1) d ++ insert x (slice (p + 1) i d)
-  insert-on b =
-      let l : p < length d = omega arith in
-      rw (next, b, add-one p, take-suc d p nan l) (sym (append_snoc (take p d) (d ‼ p) (insert x (slice (suc p) i d))))
-
-  -- x takes the place of a number, which is carried on
-  pub carry : take p d ++ (x ∷ slice p i d) ≡ take (p + 1) (set d p x) ++ (d ‼ p ∷ slice (p + 1) i (set d p x))
-  carry =
-      let l : p < length d = omega arith in
-      let m : p < suc p = omega arith in
-      rw (slice-cons p i d nan h k, add-one p, take-suc-set d p x l, take-set-lt i d p x h, drop-set-lt (suc p) (take i d) p x m)
-      (sym (append_snoc (take p d) x (d ‼ p ∷ slice (suc p) i d)))
-
-pub insert-last : (d : List Float) (i : ℕ) (x : Float) → insert x (slice i i d) ≡ x ∷ slice i i d
+-- x goes in front of the first number that comes before it
+insert-at : (x : Float) (l : List Float) → insert x l ≡ take (position_or_len (λ y. before y x) l) l ++ (x ∷ drop (position_or_len (λ y. before y x) l) l)
 unfolding insert
-insert-last d i x = rw (slice_empty i d)
+insert-at x [] = refl
+insert-at x (y ∷ r) = go (before y x) (insert-at x r)
+  where
+    q : ℕ
+    q = position_or_len (λ y. before y x) r
+
+    go : (b : Bool) → insert x r ≡ take q r ++ (x ∷ drop q r) → cond b (x ∷ (y ∷ r)) (y ∷ insert x r) ≡ take (cond (not b) (1 + q) 0) (y ∷ r) ++ (x ∷ drop (cond (not b) (1 + q) 0) (y ∷ r))
+    go true h = refl
+    go false h = let e : 1 + q ≡ suc q = omega arith in rw e (ap (λ l. y ∷ l) h)
+
+within : (test : Float → Bool) (l : List Float) → position_or_len test l ≤ length l
+within test [] = omega arith
+within test (y ∷ r) = go (test y) (within test r)
+  where
+    go : (b : Bool) → position_or_len test r ≤ length r → cond (not b) (1 + position_or_len test r) 0 ≤ suc (length r)
+    go true h = omega arith
+    go false h = omega arith
+
+-- where that is, from what a search for it answers
+pub placed : (d : List Float) (x : Float) (o : Option ℕ) (r : ℕ) → o ≡ position (λ y. before y x) d → r ≡ unwrap_or o (length d) → (r ≤ length d) × (insert x d ≡ take r d ++ (x ∷ drop r d))
+placed d x o r p e = let z : r ≡ q = e ∙ ap (λ (o : Option ℕ). unwrap_or o (length d)) p ∙ there (nat_lt q (length d)) refl in (rw z (within (λ y. before y x) d), rw z (insert-at x d))
+  where
+    q : ℕ
+    q = position_or_len (λ y. before y x) d
+
+    there : (b : Bool) → nat_lt q (length d) ≡ b → unwrap_or (cond b (Some q) None) (length d) ≡ q
+    there true h = refl
+    there false h = le_antisymm (ltb-false q (length d) h) (within (λ y. before y x) d)
+
+-- the last number of a part, moved to the part's front
+module _ (d : List Float) (p i : ℕ) (h : p ≤ i) (k : i < length d) where
+  abbrev run : List Float
+  run = take (i + 1 - p) (drop p d)
+
+  shape : run ≡ take (i - p) (drop p d) ++ (d ‼ i ∷ [])
+  shape =
+      let m : i + 1 - p ≡ suc (i - p) = omega arith in
+      let o : p + (i - p) ≡ i = omega arith in
+      let l : i - p < length (drop p d) = simp length-drop (omega arith) in
+      rw (m, take-suc (drop p d) (i - p) nan l, get_or-drop p d (i - p) nan, o) refl
+
+  front : length (take (i - p) (drop p d)) ≡ i - p
+  front = simp (length-take, length-drop) (omega arith)
+
+  pub turned : take p d ++ ((drop (length run - 1) run ++ take (length run - 1) run) ++ drop (i + 1 - p) (drop p d)) ≡ (take p (take i d) ++ (d ‼ i ∷ drop p (take i d))) ++ drop (i + 1) d
+  turned =
+      let n : length run - 1 ≡ i - p = simp (length-take, length-drop) (omega arith) in
+      let o : p + (i - p) ≡ i = omega arith in
+      let a : drop (i - p) run ≡ d ‼ i ∷ [] = rw shape (drop_at (take (i - p) (drop p d)) (d ‼ i ∷ []) (i - p) front) in
+      let b : take (i - p) run ≡ take (i - p) (drop p d) = rw shape (take_at (take (i - p) (drop p d)) (d ‼ i ∷ []) (i - p) front) in
+      let c : drop (i + 1 - p) (drop p d) ≡ drop (i + 1) d = drop-drop (i + 1 - p) p d ∙ ap (λ (m : ℕ). drop m d) (omega arith) in
+      let e : take p (take i d) ≡ take p d = take-take p i d h in
+      let f : drop p (take i d) ≡ take (i - p) (drop p d) = ap (λ (m : ℕ). drop p (take m d)) (sym o) ∙ drop-take p (i - p) d in
+      rw (n, a, b, c, e, f) (sym (append_assoc (take p d) (d ‼ i ∷ take (i - p) (drop p d)) (drop (i + 1) d)))
 
 -- ---- lengths
 
@@ -108,8 +146,3 @@ module _ (d : List Float) (t : ℕ) (h : t < length d) where
 -- a store right behind the front of a list
 pub store-next : (front back : List Float) (x : Float) (n : ℕ) → n ≡ length front → n < length back → set (front ++ drop n back) n x ≡ (front ++ (x ∷ [])) ++ drop (n + 1) back
 store-next front back x n e h = rw (drop-cons back n nan h, add-one n) (set_at front (back ‼ n) (drop (suc n) back) x n (sym e) ∙ sym (append_snoc front x (drop (suc n) back)))
-
--- the number that is carried to the end stands there
-pub put_last : (d d₀ : List Float) (i : ℕ) (x : Float) (whole : List Float) → i < length d → drop (i + 1) d ≡ drop (i + 1) d₀ → take i d ++ (x ∷ slice i i d) ≡ whole → set d i x ≡ whole ++ drop (i + 1) d₀
-put_last d d₀ i x whole h e w =
-    rw (← w, ← e, slice_empty i d, add-one i) (set_split d i x h ∙ sym (append_snoc (take i d) x (drop (suc i) d)))

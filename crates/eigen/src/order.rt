@@ -1,20 +1,15 @@
 // Falling order in place, by insertion.
 ghost use Rattle.std.specs.Prelude.{◌≡◌, ◌∷◌, ◌++◌, ◌+◌, ◌≤◌, ◌<◌, length, take, drop};
-ghost use Rattle.std.proofs.Math.Seq.{slice};
 ghost use Rattle.floats.specs.Words.{◌‼◌};
 ghost use Rattle.eigen.specs.Kept.{insert, falling, large};
 
-// Where x belongs among the first i numbers of d, which fall.
-fn place(d: &[f64], i: usize, x: f64) -> usize
-    requires { i ≤ length d.now }
-    ensures { (result ≤ i) × (insert x (take i d.now) ≡ take result d.now ++ (x ∷ slice result i d.now)) }
+use floats::signs::comes_before;
+
+// Where x belongs among the numbers of d, which fall.
+fn place(d: &[f64], x: f64) -> usize
+    ensures { (result ≤ length d.now) × (insert x d.now ≡ take result d.now ++ (x ∷ drop result d.now)) }
 {
-    for p in 0..i {
-        if floats::signs::comes_before(d[p], x) {
-            return p;
-        }
-    }
-    i
+    d.iter().position(|y| comes_before(*y, x)).unwrap_or(d.len())
 }
 
 // d[i] goes into its place among the i numbers before it, which fall; those behind it move on.
@@ -22,15 +17,9 @@ fn put_in(d: &mut [f64], i: usize)
     requires { i < length d.old }
     ensures { d.new ≡ insert (d.old ‼ i) (take i d.old) ++ drop (i + 1) d.old }
 {
-    let mut x = d[i];
-    let p = place(d, i, x);
-    let most = i - p;
-    for t in 0..most {
-        let y = d[p + t];
-        d[p + t] = x;
-        x = y;
-    }
-    d[i] = x;
+    let x = d[i];
+    let p = place(&d[..i], x);
+    d[p..i + 1].rotate_right(1);
 }
 
 // The first n numbers of d, in falling order; those beyond stay.
@@ -53,13 +42,11 @@ pub fn keep(d: &[f64], m: usize, kept: &mut [f64]) -> usize
     ensures kept_after { kept.new ≡ large (take m d.now) ++ drop (length (large (take m d.now))) kept.old }
 {
     let mut count = 0usize;
-    for t in 0..m {
-        let x = d[t];
-        if !(x > KEPT_ABOVE) {
-            continue;
+    for x in &d[..m] {
+        if *x > KEPT_ABOVE {
+            kept[count] = *x;
+            count += 1;
         }
-        kept[count] = x;
-        count += 1;
     }
     count
 }

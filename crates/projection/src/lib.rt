@@ -11,7 +11,7 @@ ghost use Rattle.floats.specs.Sums.{sum_of};
 ghost use Rattle.floats.specs.Search.{first_bad};
 ghost use Rattle.floats.specs.Tables.{table, triangle, half, part};
 ghost use Rattle.floats.specs.Matrix.{half_entry, half_of};
-ghost use Rattle.floats.specs.Limits.{max_columns, Square, Squares, matrix_room};
+ghost use Rattle.floats.specs.Limits.{max_rows, max_columns, Square, Squares, matrix_room};
 ghost use Rattle.rows.specs.Terms.{sum_from};
 ghost use Rattle.columns.specs.Sheet.{Design};
 ghost use Rattle.design.specs.Difference.{difference_at};
@@ -160,13 +160,8 @@ fn add_block(
     }
 }
 
-// How many of the terms that are left come next: sixteen, or all.
-fn next_block(left: usize) -> usize
-    requires { 0 < left }
-    ensures { (0 < result) × (result ≤ 16) × (result ≤ left) }
-{
-    if left < 16 { left } else { 16 }
-}
+// How many terms are added to every entry before the next.
+const TERMS: usize = 16;
 
 // M A M into the first half of the room, from M in the second; `w` is room for sixteen rows, `stride` apart, and `before` and `here` for two rows of M.
 fn products(
@@ -182,37 +177,33 @@ fn products(
 {
     let half = halves::place(n, 0);
     rows::fill(&mut room[..half], -0.0);
-    let mut t = 0usize;
-    while t < n {
-        let count = next_block(n - t);
-        let block = Block { first: t, count };
+    for b in 0..n.div_ceil(TERMS) {
+        let first = TERMS * b;
+        let count = TERMS.min(n - first);
+        let block = Block { first, count };
         add_block(room, w, stride, n, block, &mut before[..n], &mut here[..n]);
-        t = t + count;
     }
 }
 
-// The same, with room of its own for the sixteen rows and the two: to clear much of it costs a small matrix more than
-// the products do.
-fn products_of_few(room: &mut [f64], n: usize)
-    requires { (Squares n room.old) × (n ≤ 16) }
+// The same, with room of its own: of W numbers for the sixteen rows, which stand N apart, and of N for each of the two.
+// To clear much of it costs a small matrix more than the products do; at the stride of the largest `rows::add_terms`
+// takes sixteen terms a pass.
+fn products_within<const W: usize, const N: usize>(room: &mut [f64], n: usize)
+    requires { (Squares n room.old) × (n ≤ N) × (16 * N ≤ W) × (W ≤ 16 * max_rows) }
     ensures { room.new ≡ half (λ i j. sum_of n (λ t. half_entry (part (triangle n) (triangle n + triangle n) room.old) i t ⊗ difference_at (λ s. half_entry (part (triangle n) (triangle n + triangle n) room.old) s j) n t)) n ++ drop (triangle n) room.old }
 {
-    let mut w = [0.0f64; 16 * 16];
-    let mut before = [0.0f64; 16];
-    let mut here = [0.0f64; 16];
-    products(room, &mut w, 16, n, &mut before, &mut here);
+    let mut w = [0.0f64; W];
+    let mut before = [0.0f64; N];
+    let mut here = [0.0f64; N];
+    products(room, &mut w, N, n, &mut before, &mut here);
 }
 
-// And with room for any matrix: at this stride `rows::add_terms` takes sixteen terms a pass.
-fn products_of_many(room: &mut [f64], n: usize)
-    requires { Squares n room.old }
-    ensures { room.new ≡ half (λ i j. sum_of n (λ t. half_entry (part (triangle n) (triangle n + triangle n) room.old) i t ⊗ difference_at (λ s. half_entry (part (triangle n) (triangle n + triangle n) room.old) s j) n t)) n ++ drop (triangle n) room.old }
-{
-    let mut w = [0.0f64; 16 * MAX_ROWS];
-    let mut before = [0.0f64; MAX_ROWS];
-    let mut here = [0.0f64; MAX_ROWS];
-    products(room, &mut w, MAX_ROWS, n, &mut before, &mut here);
-}
+// Up to how many rows count as few, and the room for sixteen rows of few or of any.
+const FEW: usize = 16;
+
+const FEW_WIDE: usize = TERMS * FEW;
+
+const ANY_WIDE: usize = TERMS * MAX_ROWS;
 
 // M into the second half of the room, then M A M into the first.
 fn fill_room(room: &mut [f64], x: &[f64], inv: &Matrix, size: SheetSize)
@@ -225,10 +216,10 @@ fn fill_room(room: &mut [f64], x: &[f64], inv: &Matrix, size: SheetSize)
     let full = half + half;
     let mut u = [0.0f64; MAX_COLUMNS];
     residual_maker(&mut room[half..full], &mut u[..k], x, inv, size);
-    if n <= 16 {
-        products_of_few(room, n);
+    if n <= FEW {
+        products_within::<FEW_WIDE, FEW>(room, n);
     } else {
-        products_of_many(room, n);
+        products_within::<ANY_WIDE, MAX_ROWS>(room, n);
     }
 }
 

@@ -22,9 +22,7 @@ pub fn add_to_row(a: &mut [f64], i: usize, xs: &[f64], stride: usize, w: &[f64])
 pub fn negate(a: &mut [f64])
     ensures { a.new ≡ table (λ p. neg (a.old ‼ p)) (length a.old) }
 {
-    for p in 0..a.len() {
-        a[p] = -a[p];
-    }
+    rows::update(a, |_, x| -x);
 }
 
 // Adds 1 to the entries on the diagonal.
@@ -43,9 +41,7 @@ pub fn set_difference(row: &mut [f64], xs: &[f64], ys: &[f64])
     requires { (length row.old ≤ length xs.now) × (length row.old ≤ length ys.now) }
     ensures { row.new ≡ table (λ j. plus_zero ⊕ (xs.now ‼ j ⊖ ys.now ‼ j)) (length row.old) }
 {
-    for j in 0..row.len() {
-        row[j] = 0.0 + (xs[j] - ys[j]);
-    }
+    rows::update(row, |j, _| 0.0 + (xs[j] - ys[j]));
 }
 
 // Adds the differences of `xs` and `ys` to the numbers of `row`.
@@ -53,7 +49,5 @@ pub fn add_difference(row: &mut [f64], xs: &[f64], ys: &[f64])
     requires { (length row.old ≤ length xs.now) × (length row.old ≤ length ys.now) }
     ensures { row.new ≡ table (λ j. row.old ‼ j ⊕ (xs.now ‼ j ⊖ ys.now ‼ j)) (length row.old) }
 {
-    for j in 0..row.len() {
-        row[j] = row[j] + (xs[j] - ys[j]);
-    }
+    rows::update(row, |j, x| x + (xs[j] - ys[j]));
 }

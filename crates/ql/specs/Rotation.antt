@@ -1,6 +1,6 @@
 -- One rotation of the implicit QL algorithm on a symmetric tridiagonal matrix, and when a coupling is negligible.
 -- The steps and their order of roundings are the Rust's (symmetric_eigenvalues). Definitions only. Assumes nothing.
-use Rattle.std.specs.Prelude.{Bool, true, false, cond, Float}
+use Rattle.std.specs.Prelude.{Bool, cond, Float, Some, None}
 use Rattle.std.specs.Float.Ieee.{le, eq}
 use Rattle.floats.specs.Words.{◌⊕◌, ◌⊖◌, ◌⊗◌, ◌⊘◌, float, plus_zero, two}
 use Rattle.floats.specs.Signs.{abs_of}
@@ -23,10 +23,10 @@ turned at d next e r =
     let c : Float = at.g ⊘ r in
     let g : Float = next ⊖ at.p in
     let h : Float = (d ⊖ g) ⊗ s ⊕ two ⊗ c ⊗ (at.c ⊗ e) in
-    record { next = record { s = s; c = c; g = c ⊗ h ⊖ at.c ⊗ e; p = s ⊗ h }; diagonal = g ⊕ s ⊗ h; coupling = r; flat = false }
+    record { next = Some (record { s = s; c = c; g = c ⊗ h ⊖ at.c ⊗ e; p = s ⊗ h }); diagonal = g ⊕ s ⊗ h; coupling = r }
 
 -- where r is 0 the sweep is cut short, and only the diagonal entry is mended
 unfoldable pub rotated : Rotation → Float → Float → Float → Rotated
 rotated at d next e =
     let r : Float = hypot_of (at.s ⊗ e) at.g in
-    cond (eq r plus_zero) (record { next = at; diagonal = next ⊖ at.p; coupling = r; flat = true }) (turned at d next e r)
+    cond (eq r plus_zero) (record { next = None; diagonal = next ⊖ at.p; coupling = r }) (turned at d next e r)

@@ -1,5 +1,5 @@
 -- A sweep of the implicit QL algorithm: the block that it works on, its shift, and its rotations from the block's end down. Definitions only. Assumes nothing.
-use Rattle.std.specs.Prelude.{ℕ, zero, suc, ◌+◌, ◌-◌, cond, List, set, Float, Option, Some, None}
+use Rattle.std.specs.Prelude.{ℕ, zero, suc, ◌+◌, ◌-◌, List, set, Float, Option, Some, None}
 use Rattle.floats.specs.Words.{◌⊕◌, ◌⊖◌, ◌⊗◌, ◌⊘◌, ◌‼◌, plus_zero, one, two}
 use Rattle.floats.specs.Signs.{copysign_of}
 use Rattle.floats.specs.Search.{first_where}
@@ -28,16 +28,21 @@ pub record Bands : Type 0 where
   pub diagonal : List Float
   pub coupling : List Float
 
--- the sweep of the block from l to m, where f rotations are left and t were made: the next is at i = m - 1 - t
-unfoldable pub sweep_from : ℕ → ℕ → ℕ → ℕ → Rotation → List Float → List Float → Bands
-sweep_from l m zero t at d e = record { diagonal = set d l (d ‼ l ⊖ at.p); coupling = set (set e l at.g) m plus_zero }
-sweep_from l m (suc f) t at d e =
-    let i : ℕ = m - 1 - t in
+-- a sweep that goes on with the next rotation, or is cut short where there is none
+abbrev pub go_on : Option Rotation → (Rotation → Bands) → Bands → Bands
+go_on (Some at) rest cut = rest at
+go_on None rest cut = cut
+
+-- the sweep of the block from l to m, where f rotations are left: of suc f the next is at i = l + f
+unfoldable pub sweep_from : ℕ → ℕ → ℕ → Rotation → List Float → List Float → Bands
+sweep_from l m zero at d e = record { diagonal = set d l (d ‼ l ⊖ at.p); coupling = set (set e l at.g) m plus_zero }
+sweep_from l m (suc f) at d e =
+    let i : ℕ = l + f in
     let turn : Rotated = rotated at (d ‼ i) (d ‼ (i + 1)) (e ‼ i) in
-    cond turn.flat
+    go_on turn.next
+    (λ next. sweep_from l m f next (set d (i + 1) turn.diagonal) (set e (i + 1) turn.coupling))
     (record { diagonal = set d (i + 1) turn.diagonal; coupling = set (set e (i + 1) turn.coupling) m plus_zero })
-    (sweep_from l m f (t + 1) turn.next (set d (i + 1) turn.diagonal) (set e (i + 1) turn.coupling))
 
 unfoldable pub sweep_of : ℕ → ℕ → List Float → List Float → Bands
 unfolding sweep_from
-sweep_of l m d e = sweep_from l m (m - l) 0 (record { s = one; c = one; g = shift_of (d ‼ l) (d ‼ (l + 1)) (d ‼ m) (e ‼ l); p = plus_zero }) d e
+sweep_of l m d e = sweep_from l m (m - l) (record { s = one; c = one; g = shift_of (d ‼ l) (d ‼ (l + 1)) (d ‼ m) (e ‼ l); p = plus_zero }) d e

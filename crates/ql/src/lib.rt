@@ -23,13 +23,12 @@ struct Rotation {
     p: f64,
 }
 
-// One rotation's outcome: the next rotation, and what it stores beside it.
+// One rotation's outcome: the next rotation, none where the sweep is cut short, and what it stores beside it.
 #[derive(Clone, Copy)]
 struct Rotated {
-    next: Rotation,
+    next: Option<Rotation>,
     diagonal: f64,
     coupling: f64,
-    flat: bool,
 }
 
 // |x| but for the sign of zero, which no comparison sees: three instructions where `abs` takes seven.
@@ -47,26 +46,6 @@ fn is_negligible(e: f64, above: f64, below: f64) -> bool
     ensures { result ≡ le (abs_of e) (epsilon ⊗ (above ⊕ below)) }
 {
     size(e) <= EPSILON * (above + below)
-}
-
-// The last index of the block that begins at `l`: the first from `l` on whose coupling is
-// negligible, else `n - 1`.
-fn block_end(d: &[f64], e: &[f64], n: usize, l: usize) -> usize
-    requires { (l < n) × (n ≤ length d.now) × (n ≤ length e.now) }
-    ensures within { (l ≤ result) × (result < n) }
-    ensures value { result ≡ block_end n d.now e.now l }
-{
-    let most = n - 1 - l;
-    let mut above = size(d[l]);
-    for t in 0..most {
-        let m = l + t;
-        let below = size(d[m + 1]);
-        if is_negligible(e[m], above, below) {
-            return m;
-        }
-        above = below;
-    }
-    n - 1
 }
 
 // The entry that the sweep from `m` down to `l` begins with: Wilkinson's shift taken off d[m].
@@ -87,10 +66,9 @@ fn rotate(at: Rotation, d: f64, next: f64, e: f64) -> Rotated
     let r = roots::hypot(f, at.g);
     if r == 0.0 {
         return Rotated {
-            next: at,
+            next: None,
             diagonal: next - at.p,
             coupling: r,
-            flat: true,
         };
     }
     let s = f / r;
@@ -99,68 +77,19 @@ fn rotate(at: Rotation, d: f64, next: f64, e: f64) -> Rotated
     let h = (d - g) * s + 2.0 * c * b;
     let p = s * h;
     Rotated {
-        next: Rotation {
+        next: Some(Rotation {
             s,
             c,
             g: c * h - b,
             p,
-        },
+        }),
         diagonal: g + p,
         coupling: r,
-        flat: false,
     }
-}
-
-// One sweep over the block from `m` down to `l`. It is cut short where a rotation's r is 0.
-fn sweep(d: &mut [f64], e: &mut [f64], l: usize, m: usize)
-    requires { (l < m) × (m < length d.old) × (m < length e.old) }
-    ensures d_after { d.new ≡ (sweep_of l m d.old e.old).diagonal }
-    ensures e_after { e.new ≡ (sweep_of l m d.old e.old).coupling }
-{
-    let mut at = Rotation {
-        s: 1.0,
-        c: 1.0,
-        g: shift(d[l], d[l + 1], d[m], e[l]),
-        p: 0.0,
-    };
-    let most = m - l;
-    for t in 0..most {
-        let i = m - 1 - t;
-        let turn = rotate(at, d[i], d[i + 1], e[i]);
-        d[i + 1] = turn.diagonal;
-        e[i + 1] = turn.coupling;
-        if turn.flat {
-            e[m] = 0.0;
-            return;
-        }
-        at = turn.next;
-    }
-    d[l] = d[l] - at.p;
-    e[l] = at.g;
-    e[m] = 0.0;
 }
 
 // How many sweeps an index's turn may make.
 const MOST_SWEEPS: usize = 60;
-
-// Index `l`'s turn: sweeps until its coupling is negligible, or as many as it may make; then on, silently.
-fn settle(d: &mut [f64], e: &mut [f64], n: usize, l: usize, work: Tally) -> Tally
-    requires { (l < n) × (n ≤ length d.old) × (n ≤ length e.old) × (work.sweeps + most_sweeps < 2 ^ 64) }
-    ensures value { result ≡ (settled n l most_sweeps d.old e.old work).work }
-    ensures d_after { d.new ≡ (settled n l most_sweeps d.old e.old work).diagonal }
-    ensures e_after { e.new ≡ (settled n l most_sweeps d.old e.old work).coupling }
-{
-    let mut tally = work;
-    for turn in 0..MOST_SWEEPS {
-        let m = block_end(d, e, n, l);
-        if m == l {
-            return tally;
-        }
-        sweep(d, e, l, m);
-        tally = tally.swept();
-    }
-    tally
-}
 
 // The work of all turns, and whether an index still had a coupling left after its own.
 #[derive(Clone, Copy)]
@@ -169,27 +98,93 @@ pub struct Swept {
     pub stuck: bool,
 }
 
-// Whether `stuck` holds, or a coupling is left at index `l`.
-fn stuck_with(d: &[f64], e: &[f64], n: usize, l: usize, stuck: bool) -> bool
-    requires { (l < n) × (n ≤ length d.now) × (n ≤ length e.now) }
-    ensures { result ≡ (stuck || coupling_left n d.now e.now l) }
-{
-    if stuck {
-        return true;
-    }
-    block_end(d, e, n, l) != l
+// The bands of a matrix of n rows, the first n numbers of each run.
+#[derive(Drop)]
+struct Bands<'a> {
+    d: &'a mut [f64],
+    e: &'a mut [f64],
+    n: usize,
+    ghost rows: { (n ≤ length d.now) × (n ≤ length e.now) },
 }
 
-// Index `l`'s turn, and one look more: whether a coupling is left at it then, or was at an index before it.
-fn settle_and_look(d: &mut [f64], e: &mut [f64], n: usize, l: usize, before: Swept) -> Swept
-    requires { (l < n) × (n ≤ length d.old) × (n ≤ length e.old) × (before.work.sweeps + most_sweeps < 2 ^ 64) }
-    ensures stuck_value { (result.stuck ≡ (before.stuck || coupling_left n (settled n l most_sweeps d.old e.old before.work).diagonal (settled n l most_sweeps d.old e.old before.work).coupling l)) × (result.work ≡ (settled n l most_sweeps d.old e.old before.work).work) }
-    ensures d_after { d.new ≡ (settled n l most_sweeps d.old e.old before.work).diagonal }
-    ensures e_after { e.new ≡ (settled n l most_sweeps d.old e.old before.work).coupling }
-{
-    let work = settle(d, e, n, l, before.work);
-    let stuck = stuck_with(d, e, n, l, before.stuck);
-    Swept { work, stuck }
+impl<'a> Bands<'a> {
+    // The last index of the block that begins at `l`: the first from `l` on whose coupling is negligible, else `n - 1`.
+    fn block_end(&self, l: usize) -> usize
+        requires { l < self.now.n }
+        ensures within { (l ≤ result) × (result < self.now.n) }
+        ensures value { result ≡ block_end self.now.n self.now.d.now self.now.e.now l }
+    {
+        let mut above = size(self.d[l]);
+        for m in l..self.n - 1 {
+            let below = size(self.d[m + 1]);
+            if is_negligible(self.e[m], above, below) {
+                return m;
+            }
+            above = below;
+        }
+        self.n - 1
+    }
+
+    // One sweep over the block from `m` down to `l`. It is cut short where a rotation's r is 0.
+    fn sweep(&mut self, l: usize, m: usize)
+        requires { (l < m) × (m < self.old.n) }
+        ensures same_runs { (self.new.d.ghost_name ≡ self.old.d.ghost_name) × (self.new.e.ghost_name ≡ self.old.e.ghost_name) × (self.new.n ≡ self.old.n) }
+        ensures d_after { self.new.d.now ≡ (sweep_of l m self.old.d.now self.old.e.now).diagonal }
+        ensures e_after { self.new.e.now ≡ (sweep_of l m self.old.d.now self.old.e.now).coupling }
+    {
+        let mut at = Rotation {
+            s: 1.0,
+            c: 1.0,
+            g: shift(self.d[l], self.d[l + 1], self.d[m], self.e[l]),
+            p: 0.0,
+        };
+        for i in (l..m).rev() {
+            let turn = rotate(at, self.d[i], self.d[i + 1], self.e[i]);
+            self.d[i + 1] = turn.diagonal;
+            self.e[i + 1] = turn.coupling;
+            let Some(next) = turn.next else {
+                self.e[m] = 0.0;
+                return;
+            };
+            at = next;
+        }
+        self.d[l] = self.d[l] - at.p;
+        self.e[l] = at.g;
+        self.e[m] = 0.0;
+    }
+
+    // Index `l`'s turn: sweeps until its coupling is negligible, or as many as it may make; then on, silently.
+    fn settle(&mut self, l: usize, work: Tally) -> Tally
+        requires { (l < self.old.n) × (work.sweeps + most_sweeps < 2 ^ 64) }
+        ensures same_runs { (self.new.d.ghost_name ≡ self.old.d.ghost_name) × (self.new.e.ghost_name ≡ self.old.e.ghost_name) × (self.new.n ≡ self.old.n) }
+        ensures value { result ≡ (settled self.old.n l most_sweeps self.old.d.now self.old.e.now work).work }
+        ensures d_after { self.new.d.now ≡ (settled self.old.n l most_sweeps self.old.d.now self.old.e.now work).diagonal }
+        ensures e_after { self.new.e.now ≡ (settled self.old.n l most_sweeps self.old.d.now self.old.e.now work).coupling }
+    {
+        let mut tally = work;
+        for _ in 0..MOST_SWEEPS {
+            let m = self.block_end(l);
+            if m == l {
+                return tally;
+            }
+            self.sweep(l, m);
+            tally = tally.swept();
+        }
+        tally
+    }
+
+    // Index `l`'s turn, and one look more: whether a coupling is left at it then, or was at an index before it.
+    fn settle_and_look(&mut self, l: usize, before: Swept) -> Swept
+        requires { (l < self.old.n) × (before.work.sweeps + most_sweeps < 2 ^ 64) }
+        ensures same_runs { (self.new.d.ghost_name ≡ self.old.d.ghost_name) × (self.new.e.ghost_name ≡ self.old.e.ghost_name) × (self.new.n ≡ self.old.n) }
+        ensures stuck_value { (result.stuck ≡ (before.stuck || coupling_left self.old.n (settled self.old.n l most_sweeps self.old.d.now self.old.e.now before.work).diagonal (settled self.old.n l most_sweeps self.old.d.now self.old.e.now before.work).coupling l)) × (result.work ≡ (settled self.old.n l most_sweeps self.old.d.now self.old.e.now before.work).work) }
+        ensures d_after { self.new.d.now ≡ (settled self.old.n l most_sweeps self.old.d.now self.old.e.now before.work).diagonal }
+        ensures e_after { self.new.e.now ≡ (settled self.old.n l most_sweeps self.old.d.now self.old.e.now before.work).coupling }
+    {
+        let work = self.settle(l, before.work);
+        let stuck = before.stuck || self.block_end(l) != l;
+        Swept { work, stuck }
+    }
 }
 
 // Every index's turn. The first `n` numbers of `d` end as the eigenvalues, in no order.
@@ -199,9 +194,10 @@ pub fn ql(d: &mut [f64], e: &mut [f64], n: usize, work: Tally) -> Swept
     ensures d_after { d.new ≡ (ql_of n n d.old e.old work).diagonal }
     ensures e_after { e.new ≡ (ql_of n n d.old e.old work).coupling }
 {
+    let mut bands = Bands { d, e, n };
     let mut swept = Swept { work, stuck: false };
     for l in 0..n {
-        swept = settle_and_look(d, e, n, l, swept);
+        swept = bands.settle_and_look(l, swept);
     }
     swept
 }

@@ -13,8 +13,8 @@ pub residual_maker-requires : goal.residual_maker-requires
 residual_maker-requires c = let pre = c.requires in
     ((second-lent c.place-half.result c.args.room.now (omega (arith, c.place-half.ensures, pre.0.0)) ∙ c.place-half.ensures ∙ add-zero _, pre.0.1), array-lent _ _ pre.1.1, pre.1)
 
-pub returns-then-n-le16 : goal.returns-then-n-le16
-returns-then-n-le16 c = let z : c.place-half.result ≡ triangle c.args.size.rows = c.place-half.ensures ∙ add-zero _ in room_of_lem c.args.x.now c.args.inv.now c.args.size.rows c.args.size.columns c.args.room.now c.requires.0.0 c.residual_maker.new.m _ c.products_of_few.new.room c.residual_maker.ensures refl (rw z at c.products_of_few.ensures)
+pub returns-then-n-le-FEW : goal.returns-then-n-le-FEW
+returns-then-n-le-FEW c = let z : c.place-half.result ≡ triangle c.args.size.rows = c.place-half.ensures ∙ add-zero _ in room_of_lem c.args.x.now c.args.inv.now c.args.size.rows c.args.size.columns c.args.room.now c.requires.0.0 c.residual_maker.new.m _ c.products_within.new.room c.residual_maker.ensures refl (rw z at c.products_within.ensures)
 
-pub returns-else-n-le16 : goal.returns-else-n-le16
-returns-else-n-le16 c = let z : c.place-half.result ≡ triangle c.args.size.rows = c.place-half.ensures ∙ add-zero _ in room_of_lem c.args.x.now c.args.inv.now c.args.size.rows c.args.size.columns c.args.room.now c.requires.0.0 c.residual_maker.new.m _ c.products_of_many.new.room c.residual_maker.ensures refl (rw z at c.products_of_many.ensures)
+pub returns-else-n-le-FEW : goal.returns-else-n-le-FEW
+returns-else-n-le-FEW c = let z : c.place-half.result ≡ triangle c.args.size.rows = c.place-half.ensures ∙ add-zero _ in room_of_lem c.args.x.now c.args.inv.now c.args.size.rows c.args.size.columns c.args.room.now c.requires.0.0 c.residual_maker.new.m _ c.products_within-else-n-le-FEW.new.room c.residual_maker.ensures refl (rw z at c.products_within-else-n-le-FEW.ensures)

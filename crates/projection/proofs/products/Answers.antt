@@ -1,36 +1,29 @@
 use lib.Seq.{length_front}
-use native.Mathlib.Nat.{mul-le-mul_right}
 use Rattle.floats.specs.Words.{minus_zero}
 use Rattle.floats.specs.Tables.{table, triangle}
 use Rattle.projection.proofs.RoomLaws.{half-lent, terms_to, terms-begin, terms-more, terms-same, terms-all}
+use Prim.Native.Nat.{◌+◌, ◌*◌, min}
 use native.Mathlib.Omega.{arith}
-use native.Mathlib.Nat.{le_antisymm, add-zero}
+use native.Mathlib.Nat.{add-zero}
 use mathlib.Core.Path.{◌≡◌, refl, ap, sym, ◌∙◌}
-use lib.ListN.{length-take}
 use borrow.Author.Rules.{rules}
 use Rattle.projection.proofs.products.Goals as goal
 
-pub slice_bounds-fill-end-2 : goal.slice_bounds-fill-end-2
-slice_bounds-fill-end-2 c = half-lent _ c.args.room.now (omega (arith, c.place-half.ensures, c.requires.0.0))
+pub loop-b-init : goal.loop-b-init
+loop-b-init c = let z : c.place-half.result ≡ triangle c.args.n = c.place-half.ensures ∙ add-zero _ in
+    let e = rw z at c.fill.ensures ∙ ap (table (λ j. minus_zero)) (sym (half-lent _ c.args.room.now c.requires.0.0)) in
+    let m : min 0 c.args.n ≡ 0 = omega arith in
+    (rw (length_front c.args.room.now c.fill.new.row c.place-half.result (search rules)) c.requires.0.0, rw (m, z) (terms-begin _ _ c.args.room.now e))
 
-pub loop-t-init : goal.loop-t-init
-loop-t-init c = let z : c.place-half.result ≡ triangle c.args.n = c.place-half.ensures ∙ add-zero _ in let e = rw z at c.fill.ensures ∙ ap (table (λ j. minus_zero)) (sym (half-lent _ c.args.room.now c.requires.0.0)) in (omega arith, refl, refl, rw (length_front c.args.room.now c.fill.new.row c.place-half.result (search rules)) c.requires.0.0, refl, refl, rw z (terms-begin _ _ c.args.room.now e))
-
-pub slice_bounds-add_block-end-in-loop-t : goal.slice_bounds-add_block-end-in-loop-t
-slice_bounds-add_block-end-in-loop-t c = simp length-take (omega arith)
-
-pub slice_bounds-add_block-end-in-loop-t-3 : goal.slice_bounds-add_block-end-in-loop-t-3
-slice_bounds-add_block-end-in-loop-t-3 c = simp length-take (omega arith)
-
-pub add_block-requires : goal.add_block-requires
-add_block-requires c = let pre = c.requires in
-    let loop = c.loop-t in
-    let next = c.next_block-count.ensures in
-    let h = mul-le-mul_right c.args.stride next.1 in
-    ((loop.invariant.3, pre.0.1), pre.1, omega arith, c.loop-t-test.true, omega arith, next.1, simp length-take (omega (arith, pre.3)), simp length-take (omega (arith, pre.4)))
-
-pub loop-t-preserved : goal.loop-t-preserved
-loop-t-preserved c = (omega arith, search rules, search rules, omega arith, search rules, search rules, c.add_block.ensures ∙ terms-more _ _ _ _ _ c.loop-t.invariant.6)
+pub loop-b-preserved : goal.loop-b-preserved
+loop-b-preserved c = let n = c.args.n in
+    let b = c.loop-b.b in
+    let t : min (16 * b) n ≡ 16 * b = omega (arith, c.loop-b-test.true, c.div_ceil-b-end.ensures) in
+    let u : 16 * b + c.min-count.result ≡ min (16 * (b + 1)) n = omega (arith, c.loop-b-test.true, c.div_ceil-b-end.ensures, c.min-count.ensures) in
+    (search rules, c.add_block.ensures ∙ terms-more _ _ (16 * b) c.min-count.result _ (rw t at c.loop-b.invariant.1) ∙ ap (terms_to n _) u)
 
 pub returns : goal.returns
-returns c = let z : c.place-half.result ≡ triangle c.args.n = c.place-half.ensures ∙ add-zero _ in let e = rw z at c.fill.ensures ∙ ap (table (λ j. minus_zero)) (sym (half-lent _ c.args.room.now c.requires.0.0)) in rw z at c.loop-t.invariant.6 ∙ terms-same _ c.fill.new.row c.args.room.now e _ ∙ ap (terms_to c.args.n c.args.room.now) (le_antisymm c.loop-t.invariant.0 c.loop-t-test.false) ∙ terms-all _ _
+returns c = let z : c.place-half.result ≡ triangle c.args.n = c.place-half.ensures ∙ add-zero _ in
+    let e = rw z at c.fill.ensures ∙ ap (table (λ j. minus_zero)) (sym (half-lent _ c.args.room.now c.requires.0.0)) in
+    let m : min (16 * c.loop-b.b) c.args.n ≡ c.args.n = omega (arith, c.loop-b-test.false, c.div_ceil-b-end.ensures) in
+    rw (z, m) at c.loop-b.invariant.1 ∙ terms-same _ c.fill.new.row c.args.room.now e _ ∙ terms-all _ _

@@ -1,9 +1,0 @@
-use Rattle.floats.specs.Words.{◌⊗◌, ◌⊘◌, ◌‼◌, two}
-use Rattle.floats.proofs.RowLaws.{filled}
-use Prim.Native.Nat.{◌≤◌}
-use mathlib.Core.Path.{◌≡◌}
-use lib.ListN.{length}
-use Rattle.tridiagonal.proofs.vectors.double_over.Given as goal
-
-abbrev pub invariant-loop-j : goal.invariant-loop-j
-invariant-loop-j l = (l.j ≤ length l.initial.row) × (length l.row ≡ length l.initial.row) × (l.j-end ≡ length l.initial.row) × (l.row ≡ filled (λ j. two ⊗ l.initial.row ‼ j ⊘ l.w) l.j l.initial.row)
