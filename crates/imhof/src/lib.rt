@@ -5,7 +5,7 @@
 ghost use Rattle.std.specs.Prelude.{◌≡◌, true, ◌≤◌, length};
 ghost use Rattle.floats.specs.Limits.{max_rows};
 ghost use Rattle.floats.specs.Count.{no_work};
-ghost use Rattle.imhof.specs.Imhof.{imhof_of, outcome_by, estimate_by, clamp_of, estimate_of};
+ghost use Rattle.imhof.specs.Imhof.{imhof_of, outcome_by, estimate_by, estimate_of};
 ghost use Rattle.imhof.specs.declared.ExactError.TheVariants.{NotFinite};
 ghost use Rattle.imhof.specs.Parts.{finite_part};
 ghost use Rattle.weights.specs.Weights.{signs_of};
@@ -29,7 +29,7 @@ pub const MOST_PARTS: usize = MOST_BISECTIONS + 1;
 pub const PART_ROOM: usize = 4 * MOST_PARTS;
 
 // A part of the range: its ends, its integral by Kronrod's rule, and the distance from Gauss's.
-#[derive(Clone, Copy)]
+#[derive(Clone, Copy, Default)]
 pub struct Part {
     pub lo: f64,
     pub hi: f64,
@@ -93,25 +93,13 @@ impl From<NotFinite> for ExactError {
     }
 }
 
-// Rust's clamp to [0, 1].
-fn clamp(x: f64) -> f64
-    ensures { result ≡ clamp_of x }
-{
-    if x < 0.0 {
-        return 0.0;
-    }
-    if x > 1.0 {
-        return 1.0;
-    }
-    x
-}
-
+// The estimate whose probability came out as raw.
 fn clamped(raw: f64, tally: Tally, small: bool) -> Estimate
     ensures { result ≡ estimate_of raw tally small }
 {
     Estimate {
         raw,
-        probability: clamp(raw),
+        probability: raw.clamp(0.0, 1.0),
         tally,
         small,
     }

@@ -5,6 +5,7 @@ ghost use Rattle.imhof.specs.Parts.{most_parts, values_of, errors_of, worst_of, 
 ghost use Rattle.imhof.specs.Room.{PartRoom, stored, stored_at, parts_in, laid_out};
 
 use super::{MOST_PARTS, Part};
+use floats::signs::comes_before;
 
 // Where each run begins.
 const LEFT_ENDS: usize = 0;
@@ -60,8 +61,8 @@ fn last_greatest(errors: &[f64]) -> usize
     ensures value { result ≡ last_greatest errors.now }
 {
     let mut w = 0;
-    for i in 0..errors.len() {
-        if !floats::signs::comes_before(errors[i], errors[w]) {
+    for (i, e) in errors.iter().enumerate() {
+        if !comes_before(*e, errors[w]) {
             w = i;
         }
     }

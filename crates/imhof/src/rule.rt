@@ -26,7 +26,7 @@ impl Halves {
 pub const RULE_SIZE: usize = 15;
 
 // Nodes on [0, 1], from the outermost to 0.
-const GK_X: [f64; 8] = [
+static GK_X: [f64; 8] = [
     0.991_455_371_120_812_6,
     0.949_107_912_342_758_5,
     0.864_864_423_359_769_1,
@@ -37,7 +37,7 @@ const GK_X: [f64; 8] = [
     0.0,
 ];
 // Kronrod's weights of all nodes.
-const GK_WK: [f64; 8] = [
+static GK_WK: [f64; 8] = [
     0.022_935_322_010_529_22,
     0.063_092_092_629_978_55,
     0.104_790_010_322_250_2,
@@ -48,7 +48,7 @@ const GK_WK: [f64; 8] = [
     0.209_482_141_084_727_8,
 ];
 // Gauss's weights of nodes 1, 3, 5 and 7.
-const GK_WG: [f64; 4] = [
+static GK_WG: [f64; 4] = [
     0.129_484_966_168_869_7,
     0.279_705_391_489_276_7,
     0.381_830_050_505_118_9,
@@ -63,8 +63,8 @@ fn laid(a: f64, b: f64) -> [f64; 16]
     let c = 0.5 * (a + b);
     let h = 0.5 * (b - a);
     let mut s = [c; 16];
-    for i in 0..7usize {
-        let x = h * GK_X[i];
+    for (i, x) in GK_X[..7].iter().enumerate() {
+        let x = h * *x;
         s[2 * i] = c - x;
         s[2 * i + 1] = c + x;
     }
@@ -78,9 +78,9 @@ fn gathered(f: &[f64; 16], a: f64, b: f64) -> Part
     let h = 0.5 * (b - a);
     let mut k = GK_WK[7] * f[14];
     let mut g = GK_WG[3] * f[14];
-    for i in 0..7usize {
+    for (i, w) in GK_WK[..7].iter().enumerate() {
         let pair = f[2 * i] + f[2 * i + 1];
-        k = k + GK_WK[i] * pair;
+        k = k + *w * pair;
         if i % 2 == 1 {
             g = g + GK_WG[i / 2] * pair;
         }

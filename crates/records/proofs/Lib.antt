@@ -1,5 +1,3 @@
-pub mod ClearLaws
-pub mod TurnLaws
 pub mod LookLaws
 pub mod WorkLaws
 pub mod SameAnswer

@@ -8,28 +8,24 @@ use Prim.Native.Nat.{ℕ, zero, suc, ◌+◌, ◌-◌, ◌≤◌, ◌<◌}
 use native.Mathlib.Nat.{eq-or-lt_of_le}
 use native.Mathlib.Numerals.{add-one}
 use native.Mathlib.Omega.{arith}
-use lib.Dec.{leb}
 use lib.ListN.{length, take, set, length-set}
 use lib.Seq.{take-suc-set, take-set-lt, take-set-le, take-take, set_out, length-take-le, get_or-take}
 use lib.Ieee.{Float, le}
-use borrow.Author.Tests.{lt-leb, le-leb}
 use Rattle.floats.specs.Sums.{sum_run}
 use Rattle.floats.specs.Count.{no_work, one_bisection}
 use Rattle.floats.specs.declared.tally.Tally.{Tally}
 use Rattle.imhof.specs.declared.Part.{Part}
 use Rattle.std.specs.Prelude.{Ok}
-use Rattle.imhof.specs.Quadrature.{Quadrature}
+use Rattle.imhof.specs.Quadrature.{Quadrature, broken}
 use Rattle.imhof.specs.declared.Standing.TheVariants.{Open, Settled, Refused}
-use Rattle.imhof.specs.Imhof.{integral_of, quadrature_of}
+use Rattle.imhof.specs.Imhof.{quadrature_of}
 use Rattle.imhof.specs.Rule.{gk15_of}
 use Rattle.imhof.specs.Parts.{most_bisections, most_parts, part_at, values_of, errors_of, worst_of, without, left_half, right_half, bisected_at, finite_part, Stage, stage, tolerance, one_rule, next_stage, stage_after}
 use Rattle.imhof.proofs.StageLaws.{next-settled, next-bisected, next-refused, stays-settled, stays-refused, first-open, first-broken, stage-next}
-use Rattle.records.specs.declared.course.Look.{Look}
-use Rattle.records.specs.declared.course.Course.{Course}
-use Rattle.records.specs.Records.{look_of, course_of, start_by, split_of, found_of, Work}
-use Rattle.records.proofs.TurnLaws.{turned-full, turned-small, turned-broken, turned-halved}
+use Rattle.records.specs.declared.look.Look.{Look}
+use Rattle.records.specs.Records.{look_of, sums_of, split_of, going, done, Work, work, start_by, found_of}
 use Rattle.records.proofs.LookLaws.{no_part, look-value, look-error, look-worst, look-greatest, worst-below}
-use Rattle.records.proofs.WorkLaws.{after, decided, none-course, none-records, next-course, next-records, stays, length-work}
+use Rattle.records.proofs.WorkLaws.{finite_halves, after, work-none, turn-full, turn-small, turn-broken, turn-halved, stays-done, kept}
 
 -- ---- the three stores of a bisection, seen in the first records
 
@@ -63,114 +59,120 @@ split-front l w k p q h inside = rw (less_one k, add-one (k + 1), add-one k) (sp
 -- ---- turn by turn
 
 module _ (f : Float → Float) (a b : Float) (ys : List Part) (room : most_parts ≤ length ys) where
-  abbrev C : ℕ → Course
-  C k = (after f a b ys k).course
-
-  abbrev R : ℕ → List Part
-  R k = (after f a b ys k).records
+  abbrev W : ℕ → Work
+  W k = after f a b ys k
 
   abbrev S : ℕ → Stage
   S k = stage_after k f a b
 
-  -- stage k is open, and its parts are the first k + 1 records; or it will not change, and the course says what it stands for
+  -- stage k is open, and its parts are the first k + 1 records; or it will not change, and the work is done with what it stands for
   abbrev Going : ℕ → Type 0
-  Going k = ((C k).more ≡ true) × (S k ≡ stage (take (k + 1) (R k)) (C k).tally Open)
+  Going k = (t : Tally) × (ps : List Part) × (W k ≡ work (going t) ps) × (S k ≡ stage (take (k + 1) ps) t Open)
 
   abbrev Shut : ℕ → Type 0
-  Shut k = ((C k).more ≡ false) × (found_of (C k) ≡ quadrature_of (S k)) × (next_stage f (S k) ≡ S k)
+  Shut k = (q : Quadrature) × (ps : List Part) × (W k ≡ work (done q) ps) × (q ≡ quadrature_of (S k)) × (next_stage f (S k) ≡ S k)
 
   abbrev whole : Part
   whole = gk15_of f a b
 
   at_first : (fine : Bool) → finite_part whole ≡ fine → Going 0 ⊎ Shut 0
   at_first true e =
-      let c : C 0 ≡ start_by true whole = sym (none-course f a b ys) ∙ ap (λ (t : Bool). start_by t whole) e in
-      let r : R 0 ≡ set ys 0 whole = sym (none-records f a b ys) ∙ ap (λ (t : Bool). set ys 0 (start_by t whole).left) e in
       inl (
-        ap (λ (z : Course). z.more) c,
-        first-open f a b e ∙ ap₂ (λ (l : List Part) (t : Tally). stage l t Open) (sym (take-suc-set ys 0 whole (omega arith)) ∙ ap (take 1) (sym r)) (ap (λ (z : Course). z.tally) (sym c)),
+        one_rule no_work,
+        set ys 0 whole,
+        sym (work-none f a b ys) ∙ ap (λ (t : Bool). work (start_by t) (set ys 0 whole)) e,
+        first-open f a b e ∙ ap (λ (l : List Part). stage l (one_rule no_work) Open) (sym (take-suc-set ys 0 whole (omega arith))),
       )
   at_first false e =
-      let c : C 0 ≡ start_by false whole = sym (none-course f a b ys) ∙ ap (λ (t : Bool). start_by t whole) e in
       let s : S 0 ≡ stage [] no_work Refused = first-broken f a b e in
-      inr (ap (λ (z : Course). z.more) c, ap found_of c ∙ sym (ap quadrature_of s), ap (next_stage f) s ∙ stays-refused f [] no_work ∙ sym s)
+      inr (
+        broken,
+        set ys 0 whole,
+        sym (work-none f a b ys) ∙ ap (λ (t : Bool). work (start_by t) (set ys 0 whole)) e,
+        sym (ap quadrature_of s),
+        ap (next_stage f) s ∙ stays-refused f [] no_work ∙ sym s,
+      )
 
   -- one turn of an open stage over n = k + 1 records
-  module _ (k : ℕ) (fit : k < most_parts) (going : Going k) where
+  module _ (k : ℕ) (fit : k < most_parts) (t : Tally) (rs : List Part) (at : W k ≡ work (going t) rs) (opens : S k ≡ stage (take (k + 1) rs) t Open) where
     abbrev n : ℕ
     n = k + 1
 
     abbrev ps : List Part
-    ps = take n (R k)
+    ps = take n rs
 
     abbrev l : Look
-    l = look_of (R k) n
+    l = look_of rs n
 
-    abbrev t : Tally
-    t = (C k).tally
+    inside : n ≤ length rs
+    inside = let m : length rs ≡ length ys = ap (λ (w : Work). length w.records) (sym at) ∙ (kept f a b ys k).0 in omega (arith, m, room, fit)
 
-    inside : n ≤ length (R k)
-    inside = let m = length-work f a b ys k in omega (arith, m, room, fit)
+    before-n : W (n - 1) ≡ work (going t) rs
+    before-n = let e : n - 1 ≡ k = omega arith in ap W e ∙ at
 
     value-is : l.value ≡ sum_run (values_of ps)
-    value-is = look-value (R k) n inside
+    value-is = look-value rs n inside
 
     error-is : l.error ≡ sum_run (errors_of ps)
-    error-is = look-error (R k) n inside
+    error-is = look-error rs n inside
 
     worst-is : l.worst ≡ worst_of ps
-    worst-is = look-worst (R k) n inside (omega arith)
+    worst-is = look-worst rs n inside (omega arith)
 
     greatest-is : l.greatest ≡ part_at ps (worst_of ps)
-    greatest-is = look-greatest (R k) n inside (omega arith)
+    greatest-is = look-greatest rs n inside (omega arith)
 
-    -- the sums of the look, in a course that says them
-    told : (c : Course) (st : Stage) → c ≡ course_of false false l l.greatest l.greatest t → quadrature_of st ≡ Ok (integral_of (stage ps t Open)) → found_of c ≡ quadrature_of st
-    told c st e q =
-        ap found_of e ∙ ap₂ {C = Quadrature} (λ (x y : Float). Ok (record { value = x; error = y; tally = t })) value-is error-is ∙ sym q
+    -- the sums of the look are the stage's
+    told : Ok (sums_of l t) ≡ quadrature_of (stage ps t Open)
+    told = ap₂ {C = Quadrature} (λ (x y : Float). Ok (record { value = x; error = y; tally = t })) value-is error-is
 
     -- no room for another bisection
-    pub at-full : most_parts ≤ n → found_of (decided f a b ys k) ≡ quadrature_of (S k)
-    at-full full = told (decided f a b ys k) (S k) (turned-full f (C k) l n going.0 (le-leb most_parts n full)) (ap quadrature_of going.1)
+    pub at-full : most_parts ≤ n → found_of (W n) ≡ quadrature_of (S k)
+    at-full full = ap found_of (turn-full f a b ys n (omega arith) t rs before-n full) ∙ told ∙ ap quadrature_of (sym opens)
 
     module _ (space : n < most_parts) where
       next : S n ≡ next_stage f (stage ps t Open)
-      next = stage-next f a b k ∙ ap (next_stage f) going.1
-
-      apart : leb most_parts n ≡ false
-      apart = lt-leb most_parts n space
+      next = stage-next f a b k ∙ ap (next_stage f) opens
 
       is-settled : le (sum_run (errors_of ps)) tolerance ≡ true → Going n ⊎ Shut n
       is-settled small =
-          let d : decided f a b ys k ≡ course_of false false l l.greatest l.greatest t = turned-small f (C k) l n going.0 apart (ap (λ (x : Float). le x tolerance) error-is ∙ small) in
-          let c : C n ≡ course_of false false l l.greatest l.greatest t = sym (next-course f a b ys k) ∙ d in
           let s : S n ≡ stage ps t Settled = next ∙ next-settled f ps t small in
-          inr (ap (λ (z : Course). z.more) c, told (C n) (S n) c (ap quadrature_of s), ap (next_stage f) s ∙ stays-settled f ps t ∙ sym s)
+          inr (
+            Ok (sums_of l t),
+            rs,
+            turn-small f a b ys n (omega arith) t rs before-n space (ap (λ (x : Float). le x tolerance) error-is ∙ small),
+            told ∙ sym (ap quadrature_of s),
+            ap (next_stage f) s ∙ stays-settled f ps t ∙ sym s,
+          )
 
       module _ (large : le (sum_run (errors_of ps)) tolerance ≡ false) where
         wide : le l.error tolerance ≡ false
         wide = ap (λ (x : Float). le x tolerance) error-is ∙ large
 
-        halves_are : finite_part (left_half f l.greatest) && finite_part (right_half f l.greatest) ≡ finite_part (left_half f (part_at ps (worst_of ps))) && finite_part (right_half f (part_at ps (worst_of ps)))
+        halves_are : finite_halves f l ≡ finite_part (left_half f (part_at ps (worst_of ps))) && finite_part (right_half f (part_at ps (worst_of ps)))
         halves_are = ap (λ (p : Part). finite_part (left_half f p) && finite_part (right_half f p)) greatest-is
 
         is-split : (fine : Bool) → finite_part (left_half f (part_at ps (worst_of ps))) && finite_part (right_half f (part_at ps (worst_of ps))) ≡ fine → Going n ⊎ Shut n
-        is-split false broken =
-            let d : decided f a b ys k ≡ course_of false true l l.greatest l.greatest t = turned-broken f (C k) l n going.0 apart wide (halves_are ∙ broken) in
-            let c : C n ≡ course_of false true l l.greatest l.greatest t = sym (next-course f a b ys k) ∙ d in
-            let s : S n ≡ stage ps t Refused = next ∙ next-refused f ps t large broken in
-            inr (ap (λ (z : Course). z.more) c, ap found_of c ∙ sym (ap quadrature_of s), ap (next_stage f) s ∙ stays-refused f ps t ∙ sym s)
+        is-split false e =
+            let s : S n ≡ stage ps t Refused = next ∙ next-refused f ps t large e in
+            inr (
+              broken,
+              rs,
+              turn-broken f a b ys n (omega arith) t rs before-n space wide (halves_are ∙ e),
+              sym (ap quadrature_of s),
+              ap (next_stage f) s ∙ stays-refused f ps t ∙ sym s,
+            )
         is-split true fine =
-            let d : decided f a b ys k ≡ course_of true false l (left_half f l.greatest) (right_half f l.greatest) (one_rule (one_rule (one_bisection t))) = turned-halved f (C k) l n going.0 apart wide (halves_are ∙ fine) in
-            let c : C n ≡ course_of true false l (left_half f l.greatest) (right_half f l.greatest) (one_rule (one_rule (one_bisection t))) = sym (next-course f a b ys k) ∙ d in
-            let r : R n ≡ split_of (R k) n l.worst (left_half f l.greatest) (right_half f l.greatest) =
-            sym (next-records f a b ys k (ap (λ (z : Course). z.more) d)) ∙ ap (λ (z : Course). split_of (R k) n z.worst z.left z.right) d in
-            let front : take (n + 1) (R n) ≡ bisected_at f (worst_of ps) ps =
-            ap (take (n + 1)) r
-            ∙ split-front (R k) l.worst k (left_half f l.greatest) (right_half f l.greatest) (worst-below (R k) n (omega arith)) (let m = length-work f a b ys k in omega (arith, m, room, space))
+            let front : take (n + 1) (split_of rs n l.worst (left_half f l.greatest) (right_half f l.greatest)) ≡ bisected_at f (worst_of ps) ps =
+            split-front rs l.worst k (left_half f l.greatest) (right_half f l.greatest) (worst-below rs n (omega arith)) (let m : length rs ≡ length ys = ap (λ (w : Work). length w.records) (sym at) ∙ (kept f a b ys k).0 in omega (arith, m, room, space))
             ∙ ap₂ (λ (w : ℕ) (p : Part). without w ps ++ (left_half f p ∷ right_half f p ∷ [])) worst-is greatest-is in
             let s : S n ≡ stage (bisected_at f (worst_of ps) ps) (one_rule (one_rule (one_bisection t))) Open = next ∙ next-bisected f ps t large fine in
-            inl (ap (λ (z : Course). z.more) c, s ∙ ap₂ (λ (z : List Part) (u : Tally). stage z u Open) (sym front) (ap (λ (z : Course). z.tally) (sym c)))
+            inl (
+              one_rule (one_rule (one_bisection t)),
+              split_of rs n l.worst (left_half f l.greatest) (right_half f l.greatest),
+              turn-halved f a b ys n (omega arith) t rs before-n space wide (halves_are ∙ fine),
+              s ∙ ap (λ (z : List Part). stage z (one_rule (one_rule (one_bisection t))) Open) (sym front),
+            )
 
       on-small : (small : Bool) → le (sum_run (errors_of ps)) tolerance ≡ small → Going n ⊎ Shut n
       on-small true e = is-settled e
@@ -181,17 +183,16 @@ module _ (f : Float → Float) (a b : Float) (ys : List Part) (room : most_parts
 
   still-shut : (k : ℕ) → Shut k → Shut (k + 1)
   still-shut k h =
-      let w : after f a b ys (k + 1) ≡ after f a b ys k = stays f a b ys k h.0 in
-      let s : S (k + 1) ≡ S k = stage-next f a b k ∙ h.2 in
-      (ap (λ (z : Work). z.course.more) w ∙ h.0, ap (λ (z : Work). found_of z.course) w ∙ h.1 ∙ sym (ap quadrature_of s), ap (next_stage f) s ∙ h.2 ∙ sym s)
+      let s : S (k + 1) ≡ S k = stage-next f a b k ∙ h.4 in
+      (h.0, h.1, stays-done f a b ys k (k + 1) (omega arith) h.0 h.1 h.2, h.3 ∙ sym (ap quadrature_of s), ap (next_stage f) s ∙ h.4 ∙ sym s)
 
   matched : (k : ℕ) → k ≤ most_bisections → Going k ⊎ Shut k
   matched zero h = at_first (finite_part whole) refl
   matched (suc k) h =
-      rw (← add-one k) (⊎_elim (λ g. turn_on k (omega arith) g (omega arith)) (λ s. inr (still-shut k s)) (matched k (omega arith)))
+      rw (← add-one k) (⊎_elim (λ g. turn_on k (omega arith) g.0 g.1 g.2 g.3 (omega arith)) (λ s. inr (still-shut k s)) (matched k (omega arith)))
 
   -- what the records give after most_parts turns is what the stages give after most_bisections
-  pub same_answer : found_of (after f a b ys most_parts).course ≡ quadrature_of (stage_after most_bisections f a b)
+  pub same_answer : found_of (after f a b ys most_parts) ≡ quadrature_of (stage_after most_bisections f a b)
   same_answer =
-      ⊎_elim (λ g. ap found_of (sym (next-course f a b ys most_bisections)) ∙ at-full most_bisections (omega arith) g (omega arith))
-      (λ s. ap (λ (z : Work). found_of z.course) (stays f a b ys most_bisections s.0) ∙ s.1) (matched most_bisections (omega arith))
+      ⊎_elim (λ g. at-full most_bisections (omega arith) g.0 g.1 g.2 g.3 (omega arith))
+      (λ s. ap found_of (stays-done f a b ys most_bisections most_parts (omega arith) s.0 s.1 s.2) ∙ s.3) (matched most_bisections (omega arith))

@@ -1,77 +1,32 @@
--- The turns over the records, one at a time: what the next turn makes of the work, that a work with nothing more to do stays as it is, and the bounds that a
--- turn needs. One idea: while there is more to do, turn k goes over k + 1 records. Assumes nothing.
-use mathlib.Core.Path.{◌≡◌, refl, sym, ap, subst, ◌∙◌}
+-- The turns over the records, one at a time: what the next turn makes of a work that goes on, case by case, that a work which is done stays as it is, and what every turn leaves of the
+-- list. Turn by turn over n records the work is that of n - 1 turns. Assumes nothing.
+use mathlib.Core.Path.{◌≡◌, refl, sym, ap, ◌∙◌}
 use mathlib.Core.Logic.{⊎_elim}
-use mathlib.Core.Bool.{Bool, true, false, ◌&&◌, cond}
+use mathlib.Core.Bool.{Bool, true, false, ◌&&◌}
 use mathlib.Core.List.{List}
-use Prim.Native.Nat.{ℕ, zero, suc, ◌+◌, ◌*◌, ◌≤◌, ◌<◌, ◌^◌}
+use Prim.Native.Nat.{ℕ, zero, suc, ◌-◌, ◌≤◌, ◌<◌}
 use native.Mathlib.Nat.{eq-or-lt_of_le}
-use native.Mathlib.Numerals.{add-one}
 use native.Mathlib.Omega.{arith}
 use lib.Dec.{leb}
-use lib.ListN.{length, set, length-set}
+use lib.ListN.{length, drop, set, length-set}
+use lib.Seq.{drop-set-lt}
 use lib.Ieee.{Float, le}
-use borrow.Author.Tests.{leb-false}
+use borrow.Author.Tests.{lt-leb, le-leb, leb-false}
+use Rattle.std.specs.Prelude.{Ok}
+use Rattle.floats.specs.Count.{one_bisection}
 use Rattle.floats.specs.Turns.{turns}
 use Rattle.floats.specs.declared.tally.Tally.{Tally}
 use Rattle.imhof.specs.declared.Part.{Part}
-use Rattle.imhof.specs.Rule.{gk15_of, rule_size}
-use Rattle.imhof.specs.Parts.{most_parts, finite_part, left_half, right_half, tolerance}
-use Rattle.records.specs.declared.course.Look.{Look}
-use Rattle.records.specs.declared.course.Course.{Course}
-use Rattle.records.specs.Records.{look_of, start_by, start_of, halved_by, looked_by, open_by, turned_by, turned_of, split_of, Work, work_by, work_after}
-use Rattle.records.proofs.TurnLaws.{turned-shut}
+use Rattle.imhof.specs.Quadrature.{Quadrature, broken}
+use Rattle.imhof.specs.Rule.{gk15_of}
+use Rattle.imhof.specs.Parts.{most_parts, part_at, finite_part, left_half, right_half, tolerance, one_rule}
+use Rattle.records.specs.declared.look.Look.{Look}
+use Rattle.records.specs.Records.{look_of, sums_of, split_of, Course, going, done, Work, work, first_work, halved_by, looked_by, open_by, next_by, next_work, work_after}
+use Rattle.records.proofs.LookLaws.{worst-below}
 
--- ---- one turn
-
-never : true ≡ false → ⊥
-never q = let z : ◌≡◌ {A = ℕ} 0 1 = cc in omega arith
-
-module _ (f : Float → Float) (l : Look) where
-  -- where a turn leaves more to do, there was room for another record, and its place is the look's
-  halved-more : (fine : Bool) (t : Tally) → (halved_by fine f l t).more ≡ true → (halved_by fine f l t).worst ≡ l.worst
-  halved-more true t h = refl
-  halved-more false t h = refl
-
-  looked-more : (small : Bool) (t : Tally) → (looked_by small f l t).more ≡ true → (looked_by small f l t).worst ≡ l.worst
-  looked-more true t h = refl
-  looked-more false t h = halved-more (finite_part (left_half f l.greatest) && finite_part (right_half f l.greatest)) t h
-
-  open_more : (full : Bool) (t : Tally) → (open_by full f l t).more ≡ true → (full ≡ false) × ((open_by full f l t).worst ≡ l.worst)
-  open_more true t h = absurd (never (sym h))
-  open_more false t h = (refl, looked-more (le l.error tolerance) t h)
-
-  by-more : (more : Bool) (c : Course) (n : ℕ) → c.more ≡ more → (turned_by more f c l n).more ≡ true → (leb most_parts n ≡ false) × ((turned_by more f c l n).worst ≡ l.worst)
-  by-more true c n e h = open_more (leb most_parts n) c.tally h
-  by-more false c n e h = absurd (never (sym h ∙ e))
-
-  pub turned_more : (c : Course) (n : ℕ) → (turned_of f c l n).more ≡ true → (n < most_parts) × ((turned_of f c l n).worst ≡ l.worst)
-  unfolding turned_of
-  turned_more c n h = let e = by-more c.more c n refl h in (leb-false most_parts n e.0, e.1)
-
-  -- a turn is one bisection and the points of two rules at most
-  abbrev Within : Tally → Tally → Type 0
-  Within u t = (u.bisections ≤ t.bisections + 1) × (u.evaluations ≤ t.evaluations + 2 * rule_size)
-
-  halved-tally : (fine : Bool) (t : Tally) → Within (halved_by fine f l t).tally t
-  halved-tally true t = (omega arith, omega arith)
-  halved-tally false t = (omega arith, omega arith)
-
-  looked-tally : (small : Bool) (t : Tally) → Within (looked_by small f l t).tally t
-  looked-tally true t = (omega arith, omega arith)
-  looked-tally false t = halved-tally (finite_part (left_half f l.greatest) && finite_part (right_half f l.greatest)) t
-
-  open-tally : (full : Bool) (t : Tally) → Within (open_by full f l t).tally t
-  open-tally true t = (omega arith, omega arith)
-  open-tally false t = looked-tally (le l.error tolerance) t
-
-  by-tally : (more : Bool) (c : Course) (n : ℕ) → Within (turned_by more f c l n).tally c.tally
-  by-tally true c n = open-tally (leb most_parts n) c.tally
-  by-tally false c n = (omega arith, omega arith)
-
-  turned-tally : (c : Course) (n : ℕ) → Within (turned_of f c l n).tally c.tally
-  unfolding turned_of
-  turned-tally c n = by-tally c.more c n
+-- both halves of the record of greatest error are finite
+abbrev pub finite_halves : (Float → Float) → Look → Bool
+finite_halves f l = finite_part (left_half f l.greatest) && finite_part (right_half f l.greatest)
 
 -- ---- turn after turn
 
@@ -79,82 +34,87 @@ module _ (f : Float → Float) (a b : Float) (ys : List Part) where
   abbrev pub after : ℕ → Work
   after k = work_after k f a b ys
 
-  -- the course after turn k, which goes over k + 1 records
-  abbrev pub decided : ℕ → Course
-  decided k = turned_of f (after k).course (look_of (after k).records (k + 1)) (k + 1)
-
-  pub none-course : start_of f a b ≡ (after 0).course
+  pub work-none : first_work f a b ys ≡ after 0
   unfolding work_after turns
-  none-course = refl
+  work-none = refl
 
-  pub none-records : set ys 0 (start_of f a b).left ≡ (after 0).records
+  work-suc : (k : ℕ) → next_work f (suc k) (after k) ≡ after (suc k)
   unfolding work_after turns
-  none-records = refl
+  work-suc k = refl
 
-  pub work-next : (k : ℕ) → work_by (decided k) (k + 1) (after k).records ≡ after (k + 1)
-  unfolding work_after turns
-  work-next k = rw (add-one k)
+  pub work-next : (n : ℕ) → 0 < n → next_work f n (after (n - 1)) ≡ after n
+  work-next n some = let e : suc (n - 1) ≡ n = omega arith in ap (λ (m : ℕ). next_work f m (after (n - 1))) (sym e) ∙ work-suc (n - 1) ∙ ap after e
 
-  pub next-course : (k : ℕ) → decided k ≡ (after (k + 1)).course
-  next-course k = ap (λ (w : Work). w.course) (work-next k)
+  module _ (n : ℕ) (some : 0 < n) (t : Tally) (ps : List Part) (at : after (n - 1) ≡ work (going t) ps) where
+    abbrev look : Look
+    look = look_of ps n
 
-  pub next-records : (k : ℕ) → (decided k).more ≡ true → split_of (after k).records (k + 1) (decided k).worst (decided k).left (decided k).right ≡ (after (k + 1)).records
-  next-records k h =
-      sym (ap (λ (m : Bool). cond m (split_of (after k).records (k + 1) (decided k).worst (decided k).left (decided k).right) (after k).records) h) ∙ ap (λ (w : Work). w.records) (work-next k)
+    turned : next_work f n (work (going t) ps) ≡ after n
+    turned = ap (next_work f n) (sym at) ∙ work-next n some
 
-  last-records : (k : ℕ) → (decided k).more ≡ false → (after k).records ≡ (after (k + 1)).records
-  last-records k h =
-      sym (ap (λ (m : Bool). cond m (split_of (after k).records (k + 1) (decided k).worst (decided k).left (decided k).right) (after k).records) h) ∙ ap (λ (w : Work). w.records) (work-next k)
+    -- no room for another bisection
+    pub turn-full : most_parts ≤ n → after n ≡ work (done (Ok (sums_of look t))) ps
+    unfolding next_work
+    turn-full h = sym turned ∙ rw (le-leb most_parts n h)
 
-  -- with nothing more to do, a turn changes nothing
-  pub stays : (k : ℕ) → (after k).course.more ≡ false → after (k + 1) ≡ after k
-  stays k h =
-      let e : decided k ≡ (after k).course = turned-shut f (after k).course (look_of (after k).records (k + 1)) (k + 1) h in
-      sym (work-next k) ∙ ap (λ (c : Course). work_by c (k + 1) (after k).records) e
-      ∙ (λ i. record { course = (after k).course; records = cond (h i) (split_of (after k).records (k + 1) (after k).course.worst (after k).course.left (after k).course.right) (after k).records })
+    module _ (space : n < most_parts) where
+      pub turn-small : le look.error tolerance ≡ true → after n ≡ work (done (Ok (sums_of look t))) ps
+      unfolding next_work
+      turn-small h = sym turned ∙ rw (lt-leb most_parts n space, h)
 
-  stay-shut : (j n : ℕ) → j ≤ n → (after j).course.more ≡ false → after n ≡ after j
-  stay-shut j zero h e = let z : 0 ≡ j = omega arith in ap after z
-  stay-shut j (suc n) h e =
-      ⊎_elim (λ z. ap after (sym z))
-      (λ g. let same : after n ≡ after j = stay-shut j n (omega (arith, g)) e in ap after (sym (add-one n)) ∙ stays n (ap (λ (w : Work). w.course.more) same ∙ e) ∙ same)
-      (eq-or-lt_of_le {n = j} {m = suc n} h)
+      module _ (large : le look.error tolerance ≡ false) where
+        pub turn-broken : finite_halves f look ≡ false → after n ≡ work (done broken) ps
+        unfolding next_work
+        turn-broken h = sym turned ∙ rw (lt-leb most_parts n space, large, h)
 
-  module _ (k : ℕ) (fit : k + 1 ≤ most_parts) (shut : (decided k).more ≡ false) where
-    same-last : after most_parts ≡ after (k + 1)
-    same-last = stay-shut (k + 1) most_parts fit (ap (λ (c : Course). c.more) (sym (next-course k)) ∙ shut)
+        pub turn-halved : finite_halves f look ≡ true
+            → after n ≡ work (going (one_rule (one_rule (one_bisection t)))) (split_of ps n look.worst (left_half f look.greatest) (right_half f look.greatest))
+        unfolding next_work
+        turn-halved h = sym turned ∙ rw (lt-leb most_parts n space, large, h)
 
-    pub end-course : decided k ≡ (after most_parts).course
-    end-course = next-course k ∙ ap (λ (w : Work). w.course) (sym same-last)
+  -- what is done stays so
+  stays : (k : ℕ) (q : Quadrature) (ps : List Part) → after k ≡ work (done q) ps → after (suc k) ≡ work (done q) ps
+  unfolding next_work
+  stays k q ps at = sym (work-suc k) ∙ ap (next_work f (suc k)) at
 
-    pub end-records : (after k).records ≡ (after most_parts).records
-    end-records = last-records k shut ∙ ap (λ (w : Work). w.records) (sym same-last)
+  pub stays-done : (j n : ℕ) → j ≤ n → (q : Quadrature) (ps : List Part) → after j ≡ work (done q) ps → after n ≡ work (done q) ps
+  stays-done j zero h q ps at = let z : 0 ≡ j = omega arith in ap after z ∙ at
+  stays-done j (suc n) h q ps at =
+      ⊎_elim (λ z. ap after (sym z) ∙ at) (λ g. stays n q ps (stays-done j n (omega (arith, g)) q ps at)) (eq-or-lt_of_le {n = j} {m = suc n} h)
 
-  -- ---- bounds
+  -- ---- what every turn keeps of the list: its length, and the records past the first most_parts
 
-  length-split : (ps : List Part) (n w : ℕ) (p q : Part) → length (split_of ps n w p q) ≡ length ps
-  length-split ps n w p q = simp length-set
+  beyond-split : (ps : List Part) (n w : ℕ) (p q : Part) → n < most_parts → w < most_parts → drop most_parts (split_of ps n w p q) ≡ drop most_parts ps
+  beyond-split ps n w p q hn hw =
+      drop-set-lt most_parts (set (set ps w (part_at ps (n - 1))) (n - 1) p) n q hn ∙ drop-set-lt most_parts (set ps w (part_at ps (n - 1))) (n - 1) p (omega arith) ∙ drop-set-lt most_parts ps w (part_at ps (n - 1)) hw
 
-  length-either : (more : Bool) (ps : List Part) (n w : ℕ) (p q : Part) → length (cond more (split_of ps n w p q) ps) ≡ length ps
-  length-either true ps n w p q = length-split ps n w p q
-  length-either false ps n w p q = refl
+  abbrev Kept : List Part → List Part → Type 0
+  Kept ps qs = (length qs ≡ length ps) × (drop most_parts qs ≡ drop most_parts ps)
 
-  pub length-work : (k : ℕ) → length (after k).records ≡ length ys
-  length-work zero = ap length (sym none-records) ∙ length-set ys 0 (start_of f a b).left
-  length-work (suc k) =
-      ap (λ (j : ℕ). length (after j).records) (sym (add-one k)) ∙ ap (λ (w : Work). length w.records) (sym (work-next k))
-      ∙ length-either (decided k).more (after k).records (k + 1) (decided k).worst (decided k).left (decided k).right ∙ length-work k
+  module _ (n : ℕ) (some : 0 < n) (ps : List Part) where
+    halved-kept : (fine : Bool) (t : Tally) → n < most_parts → Kept ps (halved_by fine f n (look_of ps n) t ps).records
+    halved-kept true t h =
+        let g = worst-below ps n some in
+        (simp length-set, beyond-split ps n (look_of ps n).worst (left_half f (look_of ps n).greatest) (right_half f (look_of ps n).greatest) h (omega (arith, g, h)))
+    halved-kept false t h = (refl, refl)
 
-  start-tally : (fine : Bool) (p : Part) → ((start_by fine p).tally.bisections ≤ 0) × ((start_by fine p).tally.evaluations ≤ rule_size)
-  start-tally true p = (omega arith, omega arith)
-  start-tally false p = (omega arith, omega arith)
+    looked-kept : (small : Bool) (t : Tally) → n < most_parts → Kept ps (looked_by small f n (look_of ps n) t ps).records
+    looked-kept true t h = (refl, refl)
+    looked-kept false t h = halved-kept (finite_halves f (look_of ps n)) t h
 
-  bounded : (k : ℕ) → ((after k).course.tally.bisections ≤ k) × ((after k).course.tally.evaluations ≤ 2 * rule_size * k + rule_size)
-  bounded zero = subst (λ (c : Course). (c.tally.bisections ≤ 0) × (c.tally.evaluations ≤ rule_size)) none-course (start-tally (finite_part (gk15_of f a b)) (gk15_of f a b))
-  bounded (suc k) =
-      let g = bounded k in
-      let h = turned-tally f (look_of (after k).records (k + 1)) (after k).course (k + 1) in
-      subst (λ (c : Course). (c.tally.bisections ≤ suc k) × (c.tally.evaluations ≤ 2 * rule_size * suc k + rule_size)) (next-course k ∙ ap (λ (j : ℕ). (after j).course) (add-one k)) (omega (arith, g.0, h.0), omega (arith, g.1, h.1))
+    open-kept : (full : Bool) (t : Tally) → leb most_parts n ≡ full → Kept ps (open_by full f n (look_of ps n) t ps).records
+    open-kept true t h = (refl, refl)
+    open-kept false t h = looked-kept (le (look_of ps n).error tolerance) t (leb-false most_parts n h)
 
-  pub tally-fits : (k : ℕ) → k + 1 ≤ most_parts → ((after k).course.tally.bisections + 1 < 2 ^ 64) × ((after k).course.tally.evaluations + 2 * rule_size < 2 ^ 64)
-  tally-fits k fit = let g = bounded k in (omega (arith, g.0, fit), omega (arith, g.1, fit))
+    next-kept : (c : Course) → Kept ps (next_by c f n ps).records
+    next-kept (going t) = open-kept (leb most_parts n) t refl
+    next-kept (done q) = (refl, refl)
+
+  pub kept : (k : ℕ) → Kept ys (after k).records
+  unfolding next_work
+  kept zero =
+      (ap (λ (w : Work). length w.records) (sym work-none) ∙ length-set ys 0 (gk15_of f a b), ap (λ (w : Work). drop most_parts w.records) (sym work-none) ∙ drop-set-lt most_parts ys 0 (gk15_of f a b) (omega arith))
+  kept (suc k) =
+      let g = kept k in
+      let h = next-kept (suc k) (omega arith) (after k).records (after k).course in
+      (ap (λ (w : Work). length w.records) (sym (work-suc k)) ∙ h.0 ∙ g.0, ap (λ (w : Work). drop most_parts w.records) (sym (work-suc k)) ∙ h.1 ∙ g.1)

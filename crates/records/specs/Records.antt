@@ -7,12 +7,12 @@ use Rattle.floats.specs.Signs.{before}
 use Rattle.floats.specs.Turns.{turns}
 use Rattle.floats.specs.Count.{no_work, one_bisection}
 use Rattle.floats.specs.declared.tally.Tally.{Tally}
+use Rattle.imhof.specs.declared.Integral.{Integral}
 use Rattle.imhof.specs.declared.Part.{Part}
 use Rattle.imhof.specs.Quadrature.{Quadrature, broken}
 use Rattle.imhof.specs.Rule.{gk15_of}
 use Rattle.imhof.specs.Parts.{most_parts, part_at, finite_part, left_half, right_half, tolerance, one_rule}
-use Rattle.records.specs.declared.course.Look.{Look}
-use Rattle.records.specs.declared.course.Course.{Course}
+use Rattle.records.specs.declared.look.Look.{Look}
 
 abbrev pub zero_part : Part
 zero_part = record { lo = plus_zero; hi = plus_zero; value = plus_zero; error = plus_zero }
@@ -35,68 +35,67 @@ unfoldable pub look_of : List Part → ℕ → Look
 unfolding turns
 look_of ps n = turns n (λ i l. noted_of l i (part_at ps i)) (unseen_of (part_at ps 0))
 
-abbrev pub course_of : Bool → Bool → Look → Part → Part → Tally → Course
-course_of more broken l left right t = record { more = more; broken = broken; worst = l.worst; left = left; right = right; value = l.value; error = l.error; tally = t }
-
--- the whole range as one part, finite or not
-abbrev pub start_by : Bool → Part → Course
-start_by true p = course_of true false (unseen_of p) p p (one_rule no_work)
-start_by false p = course_of false true (unseen_of p) p p no_work
-
-abbrev pub start_of : (Float → Float) → Float → Float → Course
-start_of f a b = start_by (finite_part (gk15_of f a b)) (gk15_of f a b)
-
--- the halves of the record of greatest error, where both are finite
-abbrev pub halved_by : Bool → (Float → Float) → Look → Tally → Course
-halved_by true f l t = course_of true false l (left_half f l.greatest) (right_half f l.greatest) (one_rule (one_rule (one_bisection t)))
-halved_by false f l t = course_of false true l l.greatest l.greatest t
-
--- small: whether the summed error is at most the tolerance
-abbrev pub looked_by : Bool → (Float → Float) → Look → Tally → Course
-looked_by true f l t = course_of false false l l.greatest l.greatest t
-looked_by false f l t = halved_by (finite_part (left_half f l.greatest) && finite_part (right_half f l.greatest)) f l t
-
--- full: whether there are as many records as there can be parts
-abbrev pub open_by : Bool → (Float → Float) → Look → Tally → Course
-open_by true f l t = course_of false false l l.greatest l.greatest t
-open_by false f l t = looked_by (le l.error tolerance) f l t
-
-abbrev pub turned_by : Bool → (Float → Float) → Course → Look → ℕ → Course
-turned_by true f c l n = open_by (leb most_parts n) f l c.tally
-turned_by false f c l n = c
-
--- one turn over n records
-unfoldable pub turned_of : (Float → Float) → Course → Look → ℕ → Course
-turned_of f c l n = turned_by c.more f c l n
+-- what they add up to, after so much work
+abbrev pub sums_of : Look → Tally → Integral
+sums_of l t = record { value = l.value; error = l.error; tally = t }
 
 -- of n records, the last takes the place of record w, then two new ones go on the end
 abbrev pub split_of : List Part → ℕ → ℕ → Part → Part → List Part
 split_of ps n w left right = set (set (set ps w (part_at ps (n - 1))) (n - 1) left) n right
+
+-- how the quadrature stands: it goes on, with the work so far, or it is done, with what it came to
+pub data Course : Type 0 where
+  going : Tally → Course
+  done : Quadrature → Course
 
 -- the course, and the records
 pub record Work : Type 0 where
   pub course : Course
   pub records : List Part
 
-abbrev pub first_work : Course → List Part → Work
-first_work c ps = record { course = c; records = set ps 0 c.left }
+abbrev pub work : Course → List Part → Work
+work c ps = record { course = c; records = ps }
 
-abbrev pub work_by : Course → ℕ → List Part → Work
-work_by c n ps = record { course = c; records = cond c.more (split_of ps n c.worst c.left c.right) ps }
+-- the whole range as one part, finite or not
+abbrev pub start_by : Bool → Course
+start_by true = going (one_rule no_work)
+start_by false = done broken
+
+abbrev pub first_work : (Float → Float) → Float → Float → List Part → Work
+first_work f a b ps = work (start_by (finite_part (gk15_of f a b))) (set ps 0 (gk15_of f a b))
+
+-- the two halves of the record of greatest error, where both are finite
+abbrev pub halved_by : Bool → (Float → Float) → ℕ → Look → Tally → List Part → Work
+halved_by true f n l t ps = work (going (one_rule (one_rule (one_bisection t)))) (split_of ps n l.worst (left_half f l.greatest) (right_half f l.greatest))
+halved_by false f n l t ps = work (done broken) ps
+
+-- small: whether the summed error is at most the tolerance
+abbrev pub looked_by : Bool → (Float → Float) → ℕ → Look → Tally → List Part → Work
+looked_by true f n l t ps = work (done (Ok (sums_of l t))) ps
+looked_by false f n l t ps = halved_by (finite_part (left_half f l.greatest) && finite_part (right_half f l.greatest)) f n l t ps
+
+-- full: whether there are as many records as there can be parts
+abbrev pub open_by : Bool → (Float → Float) → ℕ → Look → Tally → List Part → Work
+open_by true f n l t ps = work (done (Ok (sums_of l t))) ps
+open_by false f n l t ps = looked_by (le l.error tolerance) f n l t ps
+
+abbrev pub next_by : Course → (Float → Float) → ℕ → List Part → Work
+next_by (going t) f n ps = open_by (leb most_parts n) f n (look_of ps n) t ps
+next_by (done q) f n ps = work (done q) ps
 
 -- what the turn over n records makes of the work
-abbrev pub next_work : (Float → Float) → ℕ → Work → Work
-next_work f n w = work_by (turned_of f w.course (look_of w.records n) n) n w.records
+unfoldable pub next_work : (Float → Float) → ℕ → Work → Work
+next_work f n w = next_by w.course f n w.records
 
 -- the work after k turns: turn t goes over t + 1 records
 unfoldable pub work_after : ℕ → (Float → Float) → Float → Float → List Part → Work
 unfolding turns
-work_after k f a b ps = turns k (λ t w. next_work f (suc t) w) (first_work (start_of f a b) ps)
+work_after k f a b ps = turns k (λ t w. next_work f (suc t) w) (first_work f a b ps)
 
--- the integral that a closed course stands for; none where a number was not finite
-abbrev pub found_by : Bool → Course → Quadrature
-found_by true c = broken
-found_by false c = Ok (record { value = c.value; error = c.error; tally = c.tally })
+-- the integral that a work which is done came to; none where a number was not finite, or while it goes on
+abbrev pub found_by : Course → Quadrature
+found_by (going t) = broken
+found_by (done q) = q
 
-abbrev pub found_of : Course → Quadrature
-found_of c = found_by c.broken c
+abbrev pub found_of : Work → Quadrature
+found_of w = found_by w.course

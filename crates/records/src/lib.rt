@@ -1,19 +1,22 @@
-// The quadrature over a lent list of part records: the steps of the four-run form, working in the records themselves. A function that
-// is lent the list only reads, stores and calls, and all float work is in `course`, on values.
+// The quadrature over a lent list of part records: the steps of the four-run form, working in the records themselves. Both share the rule, the test of
+// finiteness and the tolerance.
 #![tactic(auto)]
 
 ghost use Rattle.std.specs.Prelude.{◌≡◌, ◌++◌, ◌<◌, ◌≤◌, length, replicate, drop};
 ghost use Rattle.imhof.specs.Integrand.{integrand_of};
 ghost use Rattle.imhof.specs.Imhof.{quadrature_of};
 ghost use Rattle.imhof.specs.Parts.{most_bisections, most_parts, stage_after};
-ghost use Rattle.records.specs.Records.{zero_part, look_of, split_of, work_after};
+ghost use Rattle.records.specs.Records.{zero_part, look_of, split_of, work_after, found_of};
 ghost use Rattle.records.specs.Answer.{answer_of, told_of, cleared_of};
 ghost use Rattle.records.specs.declared.RecordsError.TheVariants.{NotFinite};
 
-use course::{Course, Look, found, noted, start, turned, unseen, zero};
+use floats::tally::Tally;
+use imhof::adaptive::{TOLERANCE, with_bisection};
+use imhof::rule::{RULE_SIZE, bisect, gk15};
 use imhof::{Integral, MOST_PARTS, NotFinite, Part};
+use look::Look;
 
-mod course;
+mod look;
 
 // Why there is no integral.
 #[derive(Clone, Copy, Debug, PartialEq, Eq)]
@@ -37,13 +40,11 @@ fn survey(parts: &[Part], n: usize) -> Look
     requires { (0 < n) × (n ≤ length parts.now) }
     ensures { result ≡ look_of parts.now n }
 {
-    let mut l = unseen(parts[0]);
-    let mut i = 0;
-    while i < n {
-        l = noted(l, i, parts[i]);
-        i += 1;
+    let mut look = Look::unseen(parts[0]);
+    for (i, p) in parts[..n].iter().enumerate() {
+        look = look.noted(i, *p);
     }
-    l
+    look
 }
 
 // Of n records, the last takes the place of record w, then two new ones go on the end.
@@ -61,31 +62,35 @@ fn clear(parts: &mut [Part])
     requires { most_parts ≤ length parts.old }
     ensures { parts.new ≡ replicate most_parts zero_part ++ drop most_parts parts.old }
 {
-    let z = zero();
-    let mut i = 0;
-    while i < MOST_PARTS {
-        parts[i] = z;
-        i += 1;
-    }
+    parts[..MOST_PARTS].fill(Part::default());
 }
 
-// The whole range as record 0, then turn after turn, until the course is closed.
-fn refine(weights: &[f64], lo: f64, hi: f64, parts: &mut [Part]) -> Course
+// The whole range as record 0, then turn after turn, until the summed error is at most the tolerance, a half is not finite, or there is no room for
+// another bisection.
+fn refine(weights: &[f64], lo: f64, hi: f64, parts: &mut [Part]) -> Result<Integral, NotFinite>
     requires { most_parts ≤ length parts.old }
-    ensures { (result ≡ (work_after most_parts (integrand_of weights.now) lo hi parts.old).course) × (parts.new ≡ (work_after most_parts (integrand_of weights.now) lo hi parts.old).records) }
+    ensures value { result ≡ found_of (work_after most_parts (integrand_of weights.now) lo hi parts.old) }
+    ensures parts_after { parts.new ≡ (work_after most_parts (integrand_of weights.now) lo hi parts.old).records }
 {
-    let mut c = start(weights, lo, hi);
-    parts[0] = c.left;
-    let mut n = 1;
-    loop {
-        c = turned(weights, c, survey(parts, n), n);
-        if !c.more {
-            break;
-        }
-        split(parts, n, c.worst, c.left, c.right);
-        n += 1;
+    let whole = gk15(weights, lo, hi);
+    parts[0] = whole;
+    if !whole.is_finite() {
+        return Err(NotFinite);
     }
-    c
+    let mut tally = Tally::new().evaluated(RULE_SIZE);
+    for n in 1..MOST_PARTS {
+        let look = survey(parts, n);
+        if look.error <= TOLERANCE {
+            return Ok(look.sums(tally));
+        }
+        let h = bisect(weights, look.greatest);
+        if !h.are_finite() {
+            return Err(NotFinite);
+        }
+        split(parts, n, look.worst, h.left, h.right);
+        tally = with_bisection(tally);
+    }
+    Ok(survey(parts, MOST_PARTS).sums(tally))
 }
 
 // The integral from lo to hi over a lent list of records. Past the room check its first MOST_PARTS records end as zeros, and the others stay.
@@ -95,16 +100,15 @@ pub fn quadrature(weights: &[f64], lo: f64, hi: f64, parts: &mut [Part]) -> Resu
     if parts.len() < MOST_PARTS {
         return Err(RecordsError::RoomShort);
     }
-    let c = refine(weights, lo, hi, parts);
+    let found = refine(weights, lo, hi, parts);
     clear(parts);
-    Ok(found(c)?)
+    Ok(found?)
 }
 
 // The same over a list of its own: whoever calls this one lends no records.
 pub fn integrate(weights: &[f64], lo: f64, hi: f64) -> Result<Integral, RecordsError>
     ensures { result ≡ told_of (quadrature_of (stage_after most_bisections (integrand_of weights.now) lo hi)) }
 {
-    let z = zero();
-    let mut parts = [z; MOST_PARTS];
+    let mut parts = [Part::default(); MOST_PARTS];
     quadrature(weights, lo, hi, &mut parts)
 }
