@@ -9,7 +9,7 @@ use Rattle.sheet.specs.Contents.{count_of}
 use Rattle.sheet.specs.Reading.{Reading, sheets, refused, read_file, check_of}
 use Rattle.sheet.specs.Tiling.{Tiled}
 use Rattle.sheet.specs.declared.file.FileRefusal.{FileRefusal}
-use Rattle.sheet.specs.declared.file.FileCheck.TheVariants.{Accepted, Refused}
+use Rattle.std.specs.Prelude.{Ok, Err}
 use Rattle.sheet.proofs.Theorems.{accepted-tiled, tiled-sheets}
 use Rattle.lines.specs.Lines.{fronted, front_length}
 use Rattle.lines.specs.Fields.{longest, file_line_of}
@@ -20,17 +20,17 @@ use Rattle.answers.proofs.LinesLaws.{to-length}
 
 module _ (file : List ℕ) where
   -- an accepted file is tiled by as many entries as it says, and answered with their lines
-  pub accepted-all : {n : ℕ} → check_of (read_file file) ≡ Accepted n → Tiled file (count_of file)
+  pub accepted-all : {n : ℕ} → check_of (read_file file) ≡ Ok n → Tiled file (count_of file)
   accepted-all {n} h = let t = accepted-tiled file n h in rw t.count at t
 
   pub answer-lines : Tiled file (count_of file) → answer_to file ≡ lines_to file (count_of file)
   answer-lines t = ap (answer_by lent_rows file) (tiled-sheets file (count_of file) t)
 
   -- a refused one with its refusal's line
-  pub answer-refused : {f : FileRefusal} → check_of (read_file file) ≡ Refused f → answer_to file ≡ file_line_of f
+  pub answer-refused : {f : FileRefusal} → check_of (read_file file) ≡ Err f → answer_to file ≡ file_line_of f
   answer-refused {f} h = go (read_file file) h
     where
-      go : (r : Reading) → check_of r ≡ Refused f → answer_by lent_rows file r ≡ file_line_of f
+      go : (r : Reading) → check_of r ≡ Err f → answer_by lent_rows file r ≡ file_line_of f
       go (sheets es) q = absurd (let z : ◌≡◌ {A = ℕ} 0 1 = cc in omega arith)
       go (refused g) q = let k : g ≡ f = cc in rw k
 

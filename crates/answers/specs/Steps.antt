@@ -1,11 +1,9 @@
--- How the lines of a file's sheets are put, entry by entry, by what a reader finds. Definitions only. Assumes nothing.
-use Rattle.std.specs.Prelude.{ℕ, ◌*◌, ◌≤◌, Bool, true, false, List, [], length}
+-- How the lines of a file's sheets are put, entry by entry. Definitions only. Assumes nothing.
+use Rattle.std.specs.Prelude.{ℕ, ◌*◌, ◌≤◌, List, length}
 use Rattle.floats.specs.Tables.{table}
 use Rattle.sheet.specs.Contents.{most_numbers, entry_of, body_end}
 use Rattle.sheet.specs.declared.file.Entry.{Entry}
-use Rattle.sheet.specs.declared.file.Next.{Next}
-use Rattle.sheet.specs.declared.file.Next.TheVariants.{Sheet, End}
-use Rattle.answers.specs.Answer.{lent_rows, sheet_line, lines_from}
+use Rattle.answers.specs.Answer.{lent_rows, lines_from}
 
 -- an entry's body lies within the file, and the runs hold its numbers
 abbrev pub Within : List ℕ → Entry → Type 0
@@ -14,12 +12,3 @@ Within file e = (body_end e ≤ length file) × (e.rows ≤ most_numbers) × (e.
 -- the lines of a file's first k entries
 abbrev pub lines_to : List ℕ → ℕ → List ℕ
 lines_to file k = lines_from lent_rows file 0 (table (entry_of file) k)
-
--- the line of what a reader finds at entry i: none at the end
-abbrev pub next_line : List ℕ → ℕ → Next → List ℕ
-next_line file i (Sheet e) = sheet_line lent_rows file i e
-next_line file i End = []
-
-abbrev pub is_end : Next → Bool
-is_end (Sheet e) = false
-is_end End = true

@@ -57,12 +57,12 @@ exact-has-room wanted n choice matrix parts h = go (ltb n least_rows) (wants_exa
     go false true (Ok suffice) e = refl
 
 -- what is said of rooms that do not suffice, and of rooms that do
-rooms-lack : (law : Result NormalLaw LawError) (l : Layout) (asked : Asked) (r : Result (Unit {0}) TestError) → passes (refusal_in r) ≡ false
+pub rooms-lack : (law : Result NormalLaw LawError) (l : Layout) (asked : Asked) (r : Result (Unit {0}) TestError) → passes (refusal_in r) ≡ false
     → (finish law asked (said_by (exact_by r) l asked) ≡ refused_of (refusal_in r)) × (is_exact (exact_by r) ≡ false)
 rooms-lack law l asked (Ok suffice) h = absurd (true≢false h)
 rooms-lack law l asked (Err why) h = (refl, refl)
 
-rooms-suffice : (law : Result NormalLaw LawError) (l : Layout) (asked : Asked) (r : Result (Unit {0}) TestError) → passes (refusal_in r) ≡ true
+pub rooms-suffice : (law : Result NormalLaw LawError) (l : Layout) (asked : Asked) (r : Result (Unit {0}) TestError) → passes (refusal_in r) ≡ true
     → (finish law asked (said_by (exact_by r) l asked) ≡ finish law asked (by_spectrum l.spectrum l.kept asked)) × (is_exact (exact_by r) ≡ true)
 rooms-suffice law l asked (Ok suffice) h = (refl, refl)
 rooms-suffice law l asked (Err why) h = absurd (true≢false (sym h ∙ reason-refuses why))

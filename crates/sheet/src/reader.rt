@@ -1,8 +1,7 @@
 // A reader that holds a sheet file and the number of its next entry. Its methods only take it apart or put it together; the work is in
 // `file::next_at`, over the slice and the number, and `one_further`, over the number.
-ghost use Rattle.std.specs.Prelude.{◌≡◌, ◌-◌};
+ghost use Rattle.std.specs.Prelude.{◌≡◌, ◌-◌, length};
 ghost use Rattle.std.specs.Iterator.{at_most};
-ghost use Rattle.sheet.specs.Contents.{count_of};
 ghost use Rattle.sheet.specs.Reading.{next_of, one_further, NextGives};
 
 use super::file::{Entry, next_at};
@@ -59,13 +58,13 @@ impl<'a> Reader<'a> {
     }
 }
 
-// The entries from the next one on, in order. It ends, since a file says of no more than 2^32 - 1 that it has them.
+// The entries from the next one on, in order. It ends, since a file has more bytes than entries.
 impl<'a> Iterator for Reader<'a> {
     type Item = Entry;
 
     ghost next_gives = { NextGives };
 
-    ghost remaining = { λ s. at_most (count_of s.file.now - s.next) };
+    ghost remaining = { λ s. at_most (length s.file.now - s.next) };
 
     fn next(&mut self) -> Option<Entry> {
         let found = self.entry()?;

@@ -23,7 +23,6 @@ use Rattle.ql.specs.Sweep.{block_end}
 use Rattle.eigen.specs.Kept.{kept_of}
 use Rattle.eigen.specs.Spectrum.{bands_worked, delivered_of, delivered_numbers, spectrum_of, kept_numbers}
 use Rattle.weights.specs.Weights.{weights_of}
-use Rattle.weights.specs.Weights as weights
 use Rattle.imhof.specs.Imhof.{clamp_of, imhof_of}
 use Rattle.dwtest.specs.Verdict.{exact_path}
 use Rattle.dwtest.specs.Test.{test_with}
@@ -50,5 +49,5 @@ figures = record { eigenvalues = one ∷ one ∷ []; kept = 2; sweeps = 0; settl
 pub others-differ : OneLayout rough smooth × AcceptedExact rough × AcceptedExact smooth
     × (passed_on rough ≡ figures) × (passed_on smooth ≡ figures)
     × ((outcome_of rough).p ≡ one) × ((outcome_of smooth).p ≡ plus_zero)
-unfolding test_with exact_path durbin_watson_answer first_bad pivots_of fails_at factor_of left_to lower_inverse inverse_from matrix row table every turns sum_of sub mul div le is_nan sqrt_of of_bits minus abs_of weight hat residual product column_of reflected settled ql_of stuck_of negligible block_end kept_of bands_worked delivered_of delivered_numbers spectrum_of kept_numbers weights_of weights.every clamp_of imhof_of
+unfolding test_with exact_path durbin_watson_answer first_bad pivots_of fails_at factor_of left_to lower_inverse inverse_from matrix row table every turns sum_of sub mul div le is_nan sqrt_of of_bits minus abs_of weight hat residual product column_of reflected settled ql_of stuck_of negligible block_end kept_of bands_worked delivered_of delivered_numbers spectrum_of kept_numbers weights_of clamp_of imhof_of
 others-differ = (record { columns = refl; count = refl; alternative = refl; choice = refl; matrix_room = refl; part_room = refl }, record { accepted = refl; due = refl }, record { accepted = refl; due = refl }, refl, refl, refl, refl)

@@ -23,6 +23,8 @@ use Rattle.design.specs.Inverse.{inverse_of}
 use Rattle.design.specs.Law.{law_from, law_answer}
 use Rattle.outcome.specs.declared.Alternative.{Alternative}
 use Rattle.design.specs.declared.LawError.{LawError}
+use Rattle.elementary.specs.declared.NormalLaw.{NormalLaw}
+use Rattle.dwtest.proofs.TestLaws.{rooms-lack, rooms-suffice}
 use Rattle.projection.specs.Projection.{mam_of}
 use Rattle.tridiagonal.specs.Reflection.{tridiagonal_of}
 use Rattle.eigen.specs.Spectrum.{bands_stuck, worked_of, numbers_of, kept_by, kept_from, delivered_of, delivered_numbers, spectrum_by, numbers_by, spectrum_of, kept_numbers}
@@ -34,7 +36,7 @@ use Rattle.imhof.specs.declared.Estimate.{Estimate}
 use Rattle.imhof.specs.declared.ExactError.{ExactError}
 use Rattle.imhof.specs.declared.ExactError.TheVariants.{NoWeight, NotFinite}
 use Rattle.imhof.proofs.Ending.{few-small}
-use Rattle.outcome.specs.Refusals.{passes, first_of, columns_refusal, statistic_refusal, room_refusal}
+use Rattle.outcome.specs.Refusals.{passes, first_of, columns_refusal, statistic_refusal, rooms_of, room_refusal}
 use Rattle.dwtest.specs.Layout.{design_checks, Layout, layout_from, layout_of}
 use Rattle.dwtest.specs.Test.{asking, run_checks, unless_refused, answer_of, design_of, test_with, test_of}
 use Rattle.outcome.specs.Refusals.{spectrum_error, law_error}
@@ -108,9 +110,9 @@ module _ (e x : List Float) (k : ℕ) (a : Alternative) (c : Choice) (m p : ℕ)
   room = let rows = enough (ltb n 3) (wants_exact c n) due in go (passes (room_refusal (room_of n) m p)) refl rows
     where
       go : (b : Bool) → passes (room_refusal (room_of n) m p) ≡ b → (ltb n 3 ≡ false) × (wants_exact c n ≡ true) → test_of e x k a c m p ≡ exact_path (layout_of x n k) (asking d a n)
-      go true h rows = design ∙ rw (rows.0, rows.1, h) refl
+      go true h rows = design ∙ rw (rows.0, rows.1) (rooms-suffice (layout_of x n k).law (layout_of x n k) (asking d a n) (rooms_of (room_of n) m p) h).0
       go false h rows =
-          let refused : test_of e x k a c m p ≡ refused_of (room_refusal (room_of n) m p) = design ∙ rw (rows.0, rows.1, h) refl in
+          let refused : test_of e x k a c m p ≡ refused_of (room_refusal (room_of n) m p) = design ∙ rw (rows.0, rows.1) (rooms-lack (layout_of x n k).law (layout_of x n k) (asking d a n) (rooms_of (room_of n) m p) h).0 in
           absurd (true≢false (sym accepted ∙ ap (λ o. passes o.refusal) refused ∙ h))
 
   -- THE EXACT PATH: of the residuals, how many there are and their statistic come in, and nothing else

@@ -9,48 +9,33 @@ ghost use Rattle.sheet.specs.Contents.{largest_file};
 
 use floats::bits::{bits_of, little_endian};
 use lines::LONGEST;
-use sheet::file::{Entry, FileCheck, FileRefusal, LARGEST, MOST_NUMBERS, Next};
+use sheet::file::{Entry, LARGEST, MOST_NUMBERS};
+use sheet::reader::Reader;
 use std::io;
 use std::io::Read;
 
 // A digest is a word that depends on each pattern and on their order: three times the word of those before, and the pattern.
 fn digest_more(word: u64, pattern: u64) -> u64 {
-    let twice = std::num::wrapping_add_u64(word, word);
-    std::num::wrapping_add_u64(std::num::wrapping_add_u64(twice, word), pattern)
+    word.wrapping_mul(3).wrapping_add(pattern)
 }
 
 fn digest(run: &[f64]) -> u64 {
-    let mut word: u64 = 0;
-    for t in 0..run.len() {
-        word = digest_more(word, bits_of(run[t]));
-    }
-    word
+    run.iter().fold(0, |word, x| digest_more(word, bits_of(*x)))
 }
 
 // Of an entry's positions; 0 where it has none.
 fn digest_positions(file: &[u8], e: Entry) -> u64 {
-    let mut word: u64 = 0;
     if e.positions == 0 {
-        return word;
+        return 0;
     }
-    for t in 0..e.rows as usize {
-        word = digest_more(word, sheet::file::position_at(file, e, t));
-    }
-    word
+    (0..e.rows as usize).fold(0, |word, t| {
+        digest_more(word, sheet::file::position_at(file, e, t))
+    })
 }
 
-fn print_refusal(rt: &impl Print, label: &[u8], refusal: FileRefusal) -> io::Result<()> {
-    let mut out = [0u8; LONGEST];
-    let n = lines::write_file_refusal(refusal, &mut out);
+fn print_line(rt: &impl Print, label: &[u8], line: &[u8]) -> io::Result<()> {
     rt.write_all(label)?;
-    rt.write_all(&out[..n])
-}
-
-fn print_words(rt: &impl Print, label: &[u8], words: &[u64], patterns: &[usize]) -> io::Result<()> {
-    let mut out = [0u8; LONGEST];
-    let n = lines::write_words(words, patterns, &mut out);
-    rt.write_all(label)?;
-    rt.write_all(&out[..n])
+    rt.write_all(line)
 }
 
 fn print_entry(rt: &impl Print, label: &[u8], file: &[u8], i: usize, e: Entry) -> io::Result<()> {
@@ -71,23 +56,21 @@ fn print_entry(rt: &impl Print, label: &[u8], file: &[u8], i: usize, e: Entry) -
         e.positions as u64,
         digest_positions(file, e),
     ];
-    print_words(rt, label, &words, &[3, 4])
-}
-
-fn print_entries(rt: &impl Print, label: &[u8], file: &[u8], count: usize) -> io::Result<()> {
-    for i in 0..count {
-        if let Next::Sheet(e) = sheet::reader::read_entry(file, i) {
-            print_entry(rt, label, file, i, e)?;
-        }
-    }
-    Ok(())
+    let mut out = [0u8; LONGEST];
+    let n = lines::write_words(&words, &[3, 4], &mut out);
+    print_line(rt, label, &out[..n])
 }
 
 fn print_file(rt: &impl Print, label: &[u8], file: &[u8]) -> io::Result<()> {
-    match sheet::file::check_file(file) {
-        FileCheck::Accepted(count) => print_entries(rt, label, file, count),
-        FileCheck::Refused(refusal) => print_refusal(rt, label, refusal),
+    if let Err(refusal) = sheet::file::check_file(file) {
+        let mut out = [0u8; LONGEST];
+        let n = lines::write_file_refusal(refusal, &mut out);
+        return print_line(rt, label, &out[..n]);
     }
+    for (i, e) in Reader::new(file).enumerate() {
+        print_entry(rt, label, file, i, e)?;
+    }
+    Ok(())
 }
 
 // The largest file, and one byte more.
@@ -120,10 +103,7 @@ fn print_next(rt: &(impl Input + Print)) -> io::Result<bool> {
     }
     let size = little_endian(&head, 0, 4) as usize;
     let given = little_endian(&head, 4, 4) as usize;
-    if size > LARGEST + 1 {
-        return Ok(false);
-    }
-    if given > size {
+    if size > LARGEST + 1 || given > size {
         return Ok(false);
     }
     let mut file = room();

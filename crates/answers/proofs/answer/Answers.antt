@@ -14,17 +14,17 @@ returns-then-out-lt-MOST_BYTES c =
     record { value = f.0; out_after = f.1.0; counts = f.1.1 }
 
 pub put_lines-requires : goal.put_lines-requires
-put_lines-requires c = (accepted-all c.args.file.now (sym c.in-Accepted.ensures), c.if-out-lt-MOST_BYTES.false)
+put_lines-requires c = (accepted-all c.args.file.now (sym c.in-Ok.ensures), c.if-out-lt-MOST_BYTES.false)
 
-pub returns-in-Accepted : goal.returns-in-Accepted
-returns-in-Accepted c = let file = c.args.file.now in
+pub returns-in-Ok : goal.returns-in-Ok
+returns-in-Ok c = let file = c.args.file.now in
     let l = c.args.out.now in
-    let same = sym (answer-lines file (accepted-all file (sym c.in-Accepted.ensures))) in
+    let same = sym (answer-lines file (accepted-all file (sym c.in-Ok.ensures))) in
     let f = front-put most_bytes (answer_to file) l c.if-out-lt-MOST_BYTES.false (c.put_lines.ensures.0 ∙ ap length same) (c.put_lines.ensures.1 ∙ ap (λ w. put_at 0 w l) same) in
     record { value = f.0; out_after = f.1.0; counts = f.1.1 }
 
-pub returns-in-Refused : goal.returns-in-Refused
-returns-in-Refused c = let file = c.args.file.now in
+pub returns-in-Err : goal.returns-in-Err
+returns-in-Err c = let file = c.args.file.now in
     let l = c.args.out.now in
-    let r = room-for-all (file_line_of c.in-Refused.refusal) l c.if-out-lt-MOST_BYTES.false c.write_file_refusal.ensures.value c.write_file_refusal.ensures.out_after in
-    rw (answer-refused file (sym c.in-Refused.ensures)) (record { value = r.0; out_after = r.1; counts = c.write_file_refusal.ensures.counts })
+    let r = room-for-all (file_line_of c.in-Err.refusal) l c.if-out-lt-MOST_BYTES.false c.write_file_refusal.ensures.value c.write_file_refusal.ensures.out_after in
+    rw (answer-refused file (sym c.in-Err.ensures)) (record { value = r.0; out_after = r.1; counts = c.write_file_refusal.ensures.counts })
