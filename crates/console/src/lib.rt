@@ -12,13 +12,6 @@ use sheet::file::LARGEST;
 use std::io;
 use std::io::Read;
 
-// The largest file, and one byte more.
-fn room() -> [u8; LARGEST + 1]
-    ensures { largest_file + 1 ≡ length result }
-{
-    [0; LARGEST + 1]
-}
-
 // Reads until the room is full, the input ends or a read fails, and gives how many bytes were read into the start of the room.
 fn read_input(input: &mut impl Read, file: &mut [u8]) -> io::Result<usize>
     ensures { ReadsAtMost result file.new }
@@ -29,7 +22,7 @@ fn read_input(input: &mut impl Read, file: &mut [u8]) -> io::Result<usize>
         if more == 0 {
             break;
         }
-        size = size + more;
+        size += more;
     }
     Ok(size)
 }
@@ -49,8 +42,8 @@ fn answer_read(rt: &(impl Input + Print + Eprint), file: &mut [u8])
     }
 }
 
-// The whole sheet program.
+// The whole sheet program, with room for the largest file and one byte more.
 pub fn answer_input(rt: &(impl Input + Print + Eprint)) {
-    let mut file = room();
+    let mut file = [0u8; LARGEST + 1];
     answer_read(rt, &mut file);
 }
