@@ -46,29 +46,6 @@ sum-from (suc k) f = rw (sum-from k f)
 pub sum-group : (t k : ℕ) (f : ℕ → Float) → sum_from (sum_of t f) k (λ s. f (t + s)) ≡ sum_of (t + k) f
 sum-group t k f = ap (λ x. sum_from x k (λ s. f (t + s))) (sym (sum-from t f)) ∙ from-group minus_zero f t k ∙ sum-from (t + k) f
 
--- ---- k runs from run t on
-
--- the last of k + 1 runs from run t on
-pub reach-group : (stride t k n m l : ℕ) → Reach n stride m l → t + (k + 1) ≤ n → t * stride + (k * stride + m) ≤ l
-reach-group stride t k n m l r h = let z = r (t + k) (omega arith) in let y = add-mul t k stride in omega arith
-
--- as a part of the run they stand in
-module _ (stride t k m : ℕ) (xs : List Float) (start : ℕ) (p : start ≡ t * stride) (z : t * stride + (k * stride + m) ≤ length xs) where
-  in-part : (s j : ℕ) → s < k + 1 → j < m → part start (start + (k * stride + m)) xs ‼ (s * stride + j) ≡ xs ‼ ((t + s) * stride + j)
-  in-part s j a b =
-      let c : s ≤ k = omega arith in
-      let y = mul-le-mul_right stride c in
-      let e : start + (s * stride + j) ≡ (t + s) * stride + j = let x = add-mul t s stride in omega arith in
-      get_d_part xs {a = start} {e = start + (k * stride + m)} (omega arith) (omega arith) (s * stride + j) nan (omega arith) ∙ ap (λ (i : ℕ). xs ‼ i) e
-
-  pub group-terms : (row w : List Float) → t + (k + 1) ≤ length w → length row ≡ m
-      → table (λ j. sum_from (row ‼ j) (k + 1) (λ s. part start (start + (k * stride + m)) xs ‼ (s * stride + j) ⊗ part t (t + (k + 1)) w ‼ s)) (length row)
-      ≡ table (λ j. sum_from (row ‼ j) (k + 1) (λ s. xs ‼ ((t + s) * stride + j) ⊗ w ‼ (t + s))) (length row)
-  group-terms row w h o =
-      table_same _ _ (length row)
-      (λ j l. from-same (row ‼ j) (k + 1) _ _
-      (λ s b. rw (in-part s j b (omega arith), get_d_part w {a = t} {e = t + (k + 1)} (omega arith) (omega arith) s nan (omega arith))))
-
 -- ---- four terms, four at a time
 
 pub four-of : (x : Float) (xs w : List Float) (place : ℕ → ℕ) (a b c d s : ℕ) → place 0 ≡ a → place 1 ≡ b → place 2 ≡ c → place 3 ≡ d
@@ -76,11 +53,17 @@ pub four-of : (x : Float) (xs w : List Float) (place : ℕ → ℕ) (a b c d s :
 unfolding sum_from
 four-of x xs w place a b c d s e f g h = let z : s + 0 ≡ s = omega arith in rw (e, f, g, h, z)
 
--- four more after k, run s beginning at `start s`
-pub four-more : (x : Float) (xs w : List Float) (start : ℕ → ℕ) (j k : ℕ) (place : ℕ → ℕ) (a b : Float) → b ≡ sum_from a 4 (λ t. xs ‼ place t ⊗ w ‼ (k + t))
-    → a ≡ sum_from x k (λ s. xs ‼ (start s + j) ⊗ w ‼ s) → ((t : ℕ) → place t ≡ start (k + t) + j) → b ≡ sum_from x (k + 4) (λ s. xs ‼ (start s + j) ⊗ w ‼ s)
-four-more x xs w start j k place a b p q r =
-    p ∙ rw q (from-same _ 4 _ _ (λ t h. rw (r t))) ∙ from-group x (λ s. xs ‼ (start s + j) ⊗ w ‼ s) k 4
+-- four more after 4 q, run s beginning at `start s`
+pub four-more : (x : Float) (xs w : List Float) (start place : ℕ → ℕ) (t j q : ℕ) {a b : Float} → b ≡ sum_from a 4 (λ i. xs ‼ place i ⊗ w ‼ (t + 4 * q + i))
+    → a ≡ sum_from x (4 * q) (λ s. xs ‼ (start s + j) ⊗ w ‼ (t + s)) → ((i : ℕ) → place i ≡ start (4 * q + i) + j) → b ≡ sum_from x (4 * (q + 1)) (λ s. xs ‼ (start s + j) ⊗ w ‼ (t + s))
+four-more x xs w start place t j q p e r =
+    let z : 4 * q + 4 ≡ 4 * (q + 1) = omega arith in
+    p ∙ rw e (from-same _ 4 _ _ (λ i h. let y : t + 4 * q + i ≡ t + (4 * q + i) = omega arith in rw (r i, y)))
+    ∙ from-group x (λ s. xs ‼ (start s + j) ⊗ w ‼ (t + s)) (4 * q) 4 ∙ ap (λ k. sum_from x k (λ s. xs ‼ (start s + j) ⊗ w ‼ (t + s))) z
+
+-- run t + i of four, counted from run t + 4 q
+pub run-place : (stride t j q i : ℕ) → (t + 4 * q) * stride + j + i * stride ≡ (t + (4 * q + i)) * stride + j
+run-place stride t j q i = let y = add-mul (t + 4 * q) i stride in let z : t + 4 * q + i ≡ t + (4 * q + i) = omega arith in rw (← z) (omega arith)
 
 -- ---- the terms of a row of sums, group by group, run s beginning at `start s`
 

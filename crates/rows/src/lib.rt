@@ -59,53 +59,19 @@ fn four_terms(x: f64, xs: &[f64], at: usize, stride: usize, w: &[f64], s: usize)
     x + a * w[s] + b * w[s + 1] + c * w[s + 2] + d * w[s + 3]
 }
 
-// Adds eight multiples, one after another, of the runs in `xs`, each `stride` on from the one before. Each number of
-// `row` is read and written once for the eight.
-fn add_eight(row: &mut [f64], xs: &[f64], stride: usize, w: &[f64])
-    requires { (7 * stride + length row.old ≤ length xs.now) × (8 ≤ length w.now) }
-    ensures { row.new ≡ table (λ j. sum_from (row.old ‼ j) 8 (λ s. xs.now ‼ (s * stride + j) ⊗ w.now ‼ s)) (length row.old) }
+// Adds four multiples FOURS times, one after another, of the runs in `xs` from run t on. Each number of `row` is read
+// and written once for them all.
+fn add_next<const FOURS: usize>(row: &mut [f64], xs: &[f64], stride: usize, w: &[f64], t: usize)
+    requires { (Reach (length w.now) stride (length row.old) (length xs.now)) × (t + 4 * FOURS ≤ length w.now) }
+    ensures { row.new ≡ table (λ j. sum_from (row.old ‼ j) (4 * FOURS) (λ s. xs.now ‼ ((t + s) * stride + j) ⊗ w.now ‼ (t + s))) (length row.old) }
 {
-    let fifth = 4 * stride;
-    for j in 0..row.len() {
-        let a = four_terms(row[j], xs, j, stride, w, 0);
-        row[j] = four_terms(a, xs, fifth + j, stride, w, 4);
+    for (j, x) in row.iter_mut().enumerate() {
+        let mut sum = *x;
+        for q in 0..FOURS {
+            sum = four_terms(sum, xs, (t + 4 * q) * stride + j, stride, w, t + 4 * q);
+        }
+        *x = sum;
     }
-}
-
-// Adds the multiples of eight runs in `xs`, from run t on.
-fn add_next_eight(row: &mut [f64], xs: &[f64], stride: usize, w: &[f64], t: usize)
-    requires { (Reach (length w.now) stride (length row.old) (length xs.now)) × (t + 8 ≤ length w.now) }
-    ensures { row.new ≡ table (λ j. sum_from (row.old ‼ j) 8 (λ s. xs.now ‼ ((t + s) * stride + j) ⊗ w.now ‼ (t + s))) (length row.old) }
-{
-    let start = t * stride;
-    let end = start + (7 * stride + row.len());
-    let next = t + 8;
-    add_eight(row, &xs[start..end], stride, &w[t..next]);
-}
-
-// Adds sixteen multiples, one after another, of runs that stand as far apart as the longest row is long. With the
-// stride a constant the compiler has no address to work out.
-fn add_sixteen(row: &mut [f64], xs: &[f64], w: &[f64])
-    requires { (15 * max_rows + length row.old ≤ length xs.now) × (16 ≤ length w.now) }
-    ensures { row.new ≡ table (λ j. sum_from (row.old ‼ j) 16 (λ s. xs.now ‼ (s * max_rows + j) ⊗ w.now ‼ s)) (length row.old) }
-{
-    for j in 0..row.len() {
-        let a = four_terms(row[j], xs, j, MAX_ROWS, w, 0);
-        let b = four_terms(a, xs, 4 * MAX_ROWS + j, MAX_ROWS, w, 4);
-        let c = four_terms(b, xs, 8 * MAX_ROWS + j, MAX_ROWS, w, 8);
-        row[j] = four_terms(c, xs, 12 * MAX_ROWS + j, MAX_ROWS, w, 12);
-    }
-}
-
-// Adds the multiples of sixteen runs in `xs`, from run t on.
-fn add_next_sixteen(row: &mut [f64], xs: &[f64], w: &[f64], t: usize)
-    requires { (Reach (length w.now) max_rows (length row.old) (length xs.now)) × (t + 16 ≤ length w.now) }
-    ensures { row.new ≡ table (λ j. sum_from (row.old ‼ j) 16 (λ s. xs.now ‼ ((t + s) * max_rows + j) ⊗ w.now ‼ (t + s))) (length row.old) }
-{
-    let start = t * MAX_ROWS;
-    let end = start + (15 * MAX_ROWS + row.len());
-    let next = t + 16;
-    add_sixteen(row, &xs[start..end], &w[t..next]);
 }
 
 // To number j of `row`: number j of the runs in `xs`, each `stride` on from the one before, each times its number of
@@ -118,10 +84,10 @@ pub fn add_terms(row: &mut [f64], xs: &[f64], stride: usize, w: &[f64])
     let mut t = 0usize;
     while t < k {
         if stride == MAX_ROWS && t + 16 <= k {
-            add_next_sixteen(row, xs, w, t);
+            add_next::<4>(row, xs, MAX_ROWS, w, t);
             t = t + 16;
         } else if t + 8 <= k {
-            add_next_eight(row, xs, stride, w, t);
+            add_next::<2>(row, xs, stride, w, t);
             t = t + 8;
         } else {
             let start = t * stride;

@@ -11,17 +11,17 @@ use Rattle.rows.proofs.add_terms.Goals as goal
 pub loop-t-init : goal.loop-t-init
 loop-t-init c = (omega arith, refl, refl, terms-none _ _ _ _)
 
-pub add_next_sixteen-requires : goal.add_next_sixteen-requires
-add_next_sixteen-requires c = (rw (c.loop-t.invariant.2, ← c.if-stride-eq-MAX_ROWS.true) c.requires, search rules)
+pub add_next-requires : goal.add_next-requires
+add_next-requires c = (rw (c.loop-t.invariant.2, ← c.if-stride-eq-MAX_ROWS.true) c.requires, search rules)
 
 pub loop-t-preserved-then-t-k : goal.loop-t-preserved-then-t-k
-loop-t-preserved-then-t-k c = (omega (arith, leb-true (c.loop-t.t + 16) (length c.args.w.now) c.if-t-k.true-raw), search rules, search rules, c.add_next_sixteen.ensures ∙ rw (c.loop-t.invariant.3, ← c.if-stride-eq-MAX_ROWS.true) (terms-group _ _ _ _ _ 16))
+loop-t-preserved-then-t-k c = (omega (arith, leb-true (c.loop-t.t + 16) (length c.args.w.now) c.if-t-k.true-raw), search rules, search rules, c.add_next.ensures ∙ rw (c.loop-t.invariant.3, ← c.if-stride-eq-MAX_ROWS.true) (terms-group _ _ _ _ _ 16))
 
-pub add_next_eight-requires : goal.add_next_eight-requires
-add_next_eight-requires c = (rw c.loop-t.invariant.2 c.requires, search rules)
+pub add_next-requires-then-t-k-2 : goal.add_next-requires-then-t-k-2
+add_next-requires-then-t-k-2 c = (rw c.loop-t.invariant.2 c.requires, search rules)
 
 pub loop-t-preserved-then-t-k-2 : goal.loop-t-preserved-then-t-k-2
-loop-t-preserved-then-t-k-2 c = (omega arith, search rules, search rules, c.add_next_eight.ensures ∙ rw c.loop-t.invariant.3 (terms-group _ _ _ _ _ 8))
+loop-t-preserved-then-t-k-2 c = (omega arith, search rules, search rules, c.add_next-then-t-k-2.ensures ∙ rw c.loop-t.invariant.3 (terms-group _ _ _ _ _ 8))
 
 pub overflow_mul-start : goal.overflow_mul-start
 overflow_mul-start c = let h = c.requires c.loop-t.t (search rules) in omega arith
