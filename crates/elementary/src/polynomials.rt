@@ -7,5 +7,9 @@ ghost use Rattle.elementary.specs.Horner.{horner};
 pub fn horner(table: &[f64], x: f64) -> f64
     ensures { result ≡ horner table.now x }
 {
-    table.iter().copied().reduce(|p, c| p * x + c).unwrap_or(0.0)
+    table
+        .iter()
+        .copied()
+        .reduce(|p, c| p * x + c)
+        .unwrap_or(0.0)
 }

@@ -1,5 +1,5 @@
 -- `hypot`: the larger and the smaller pattern, and `hypot-at`, which is the same for either order.
-use Rattle.std.proofs.Common.{◌≡◌, ℕ, ◌*◌, ◌/◌, ◌%◌, ◌^◌, ◌≤◌, false, T, ◌⊎◌, sym, ap, ◌∙◌, subst, inl, inr, arith, le_of_lt, max, min}
+use Rattle.std.proofs.Common.{◌≡◌, ℕ, ◌*◌, ◌/◌, ◌%◌, ◌^◌, ◌≤◌, false, T, sym, ap, ◌∙◌, subst, inl, inr, arith, le_of_lt, max, min}
 use native.Mathlib.Nat.{max-eq_left, max-eq_right, min-eq_left, min-eq_right}
 use lib.Ieee.{Float, binary64, fits, is_nan, to_bits}
 use Rattle.roots.specs.Root.{root_of}

@@ -1,6 +1,4 @@
-use Rattle.elementary.specs.Near.{place_of}
 use Rattle.elementary.proofs.PlaceLaws.{may-be-asked}
-use Rattle.std.proofs.Common.{rules}
 use Rattle.elementary.proofs.near.place.Goals as goal
 
 pub float_to_bits-b : goal.float_to_bits-b
