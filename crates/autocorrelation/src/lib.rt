@@ -34,7 +34,7 @@ pub fn durbin_watson(residuals: &[f64]) -> Result<f64, StatisticError>
     ensures value { result ≡ durbin_watson_answer residuals.now }
     ensures told { Told result residuals.now }
 {
-    if residuals.len() == 0 {
+    if residuals.is_empty() {
         return Err(StatisticError::Empty);
     }
     if residuals.len() == 1 {

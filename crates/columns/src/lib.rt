@@ -1,9 +1,8 @@
 // The size of a sheet, and the checks of its columns. The k columns of n rows are one run, column after column.
 #![tactic(auto)]
 
-ghost use Rattle.std.specs.Prelude.{◌≡◌, ◌≤◌, MatchResult};
-ghost use Rattle.floats.specs.Limits.{max_rows, max_columns};
-ghost use Rattle.columns.specs.Sheet.{size_of, over, run_of, columns_of, too_few_rows, Design};
+ghost use Rattle.std.specs.Prelude.{◌≡◌, MatchResult};
+ghost use Rattle.columns.specs.Sheet.{size_of, over, columns_of, too_few_rows, Design};
 
 use floats::limits::{MAX_COLUMNS, MAX_ROWS};
 use floats::search::first_bad;
@@ -72,14 +71,6 @@ pub fn check_columns(columns: &[f64], n: usize, k: usize) -> Result<SheetSize, C
         return Err(ColumnsError::NoColumn);
     }
     let size = SheetSize::new(n, k)?;
-    check_run(columns, size)
-}
-
-// The run of a size that fits: its length, then its numbers.
-fn check_run(columns: &[f64], size: SheetSize) -> Result<SheetSize, ColumnsError>
-    requires { (size.rows ≤ max_rows) × (size.columns ≤ max_columns) }
-    ensures { result ≡ run_of columns.now size }
-{
     if columns.len() != size.columns * size.rows {
         return Err(ColumnsError::WrongLength);
     }

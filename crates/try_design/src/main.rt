@@ -8,15 +8,14 @@
 mod print;
 
 ghost use Rattle.std.specs.Prelude.{◌*◌, ◌≤◌, length};
-ghost use Rattle.columns.specs.Sheet.{Design};
 
-use columns::SheetSize;
-use design::{LawAnswer, Matrix, Pivots};
-use elementary::NormalLaw;
+use columns::Sheet;
+use design::Matrix;
 use floats::bits::{float_at, little_endian};
 use floats::limits::{MAX_COLUMNS, MAX_ROWS};
+use outcome::Asked;
 use outcome::p::normal_p;
-use outcome::{Asked, refusals};
+use outcome::refusals::{TestError, check_inverse, check_rows};
 use print::{print_line, print_matrix, print_refusal};
 use std::io;
 use std::io::Read;
@@ -26,73 +25,47 @@ const MOST_CALLS: usize = 1_000_000;
 // The numbers of a sheet with a row more than the largest.
 const MOST_NUMBERS: usize = MAX_COLUMNS * (MAX_ROWS + 1);
 
-fn normal_step(rt: &impl Print, law: NormalLaw, asked: Asked) -> io::Result<()> {
-    let answer = design::check_law(law);
-    match answer {
-        LawAnswer::NotFinite => print_refusal(rt, refusals::not_finite(refusals::LAW)),
-        LawAnswer::NotSpread => print_refusal(rt, refusals::not_spread()),
-        LawAnswer::Usable(usable) => {
+// The inverse for a sheet, or why there is none.
+fn inverted(sheet: Sheet) -> Result<Matrix, TestError> {
+    check_rows(sheet.size)?;
+    let mut l = [[0.0f64; MAX_COLUMNS]; MAX_COLUMNS];
+    design::factor(sheet, &mut l)?;
+    let k = sheet.size.columns;
+    check_inverse(design::inverse_of_factor(l, k), k)
+}
+
+fn law_step(rt: &impl Print, sheet: Sheet, inverse: Matrix, asked: Asked) -> io::Result<()> {
+    print_matrix(rt, &inverse, sheet.size.columns)?;
+    if sheet.size.rows < design::LEAST_FOR_LAW {
+        return print_line(rt, "p", 1.0);
+    }
+    let law = design::normal_law(sheet, inverse);
+    print_line(rt, "mean", law.mean)?;
+    print_line(rt, "variance", law.variance)?;
+    match design::check_law(law) {
+        Ok(usable) => {
             let alternative = asked.alternative;
             print_line(rt, "p", normal_p(usable, asked.statistic, alternative))
         }
-    }
-}
-
-fn inverse_step(
-    rt: &impl Print,
-    columns: &[f64],
-    size: SheetSize,
-    l: Matrix,
-    asked: Asked,
-) -> io::Result<()>
-    requires { Design size columns.now }
-{
-    let k = size.columns;
-    let inverse = design::inverse_of_factor(l, k);
-    let finite = refusals::of_inverse(inverse, k);
-    if finite.number != 0 {
-        return print_refusal(rt, finite);
-    }
-    print_matrix(rt, &inverse, k)?;
-    if size.rows < design::LEAST_FOR_LAW {
-        return print_line(rt, "p", 1.0);
-    }
-    let law = design::normal_law(columns, size, inverse);
-    print_line(rt, "mean", law.mean)?;
-    print_line(rt, "variance", law.variance)?;
-    normal_step(rt, law, asked)
-}
-
-fn factor_step(rt: &impl Print, columns: &[f64], size: SheetSize, asked: Asked) -> io::Result<()>
-    requires { Design size columns.now }
-{
-    let rows = refusals::of_rows(size);
-    if rows.number != 0 {
-        return print_refusal(rt, rows);
-    }
-    let mut l = [[0.0f64; MAX_COLUMNS]; MAX_COLUMNS];
-    let pivots = design::factor(columns, size, &mut l);
-    match pivots {
-        Pivots::Fails(_) => print_refusal(rt, refusals::of_pivots(pivots)),
-        Pivots::Hold => inverse_step(rt, columns, size, l, asked),
+        Err(why) => print_refusal(rt, TestError::from(why)),
     }
 }
 
 fn work_out(rt: &impl Print, columns: &[f64], n: usize, k: usize, asked: Asked) -> io::Result<()> {
-    let found = columns::check_columns(columns, n, k);
-    let sheet = refusals::of_columns(found);
-    if sheet.number != 0 {
-        return print_refusal(rt, sheet);
+    let sheet = match Sheet::new(columns, n, k) {
+        Ok(sheet) => sheet,
+        Err(why) => return print_refusal(rt, TestError::from(why)),
+    };
+    match inverted(sheet) {
+        Ok(inverse) => law_step(rt, sheet, inverse, asked),
+        Err(why) => print_refusal(rt, why),
     }
-    factor_step(rt, columns, refusals::size_in(found), asked)
 }
 
 // The numbers whose patterns stand in `bytes`, at the start of `columns`.
-fn read_numbers(bytes: &[u8], count: usize, columns: &mut [f64])
-    requires { (8 * count ≤ length bytes.now) × (count ≤ length columns.old) }
-{
-    for t in 0..count {
-        columns[t] = float_at(bytes, 8 * t);
+fn read_numbers(bytes: &[u8], columns: &mut [f64]) {
+    for (x, word) in columns.iter_mut().zip(bytes.chunks_exact(8)) {
+        *x = float_at(word, 0);
     }
 }
 
@@ -119,7 +92,7 @@ fn call_of(
     if rt.reader().read_exact(&mut bytes[..size]).is_err() {
         return Ok(false);
     }
-    read_numbers(bytes, count, columns);
+    read_numbers(&bytes[..size], columns);
     let n = little_endian(head, 0, 8) as usize;
     let k = little_endian(head, 8, 8) as usize;
     work_out(rt, &columns[..count], n, k, asked_in(head))?;

@@ -5,6 +5,7 @@ ghost use Rattle.floats.specs.Limits.{max_columns};
 use design::Matrix;
 use floats::bits::bits_of;
 use outcome::Refusal;
+use outcome::refusals::TestError;
 use std::io;
 
 fn print_bits(rt: &impl Print, x: f64) -> io::Result<()> {
@@ -22,16 +23,16 @@ pub fn print_matrix(rt: &impl Print, a: &Matrix, k: usize) -> io::Result<()>
     requires { k ≤ max_columns }
 {
     print!(rt; "inverse")?;
-    for i in 0..k {
-        for j in 0..k {
-            print_bits(rt, a[i][j])?;
+    for row in &a[..k] {
+        for x in &row[..k] {
+            print_bits(rt, *x)?;
         }
     }
     println!(rt)
 }
 
-pub fn print_refusal(rt: &impl Print, why: Refusal) -> io::Result<()> {
-    let (number, place) = (why.number, why.place);
+pub fn print_refusal(rt: &impl Print, why: TestError) -> io::Result<()> {
+    let Refusal { number, place } = Refusal::from(why);
     println!(rt; "refusal {number} {place}")
 }
 
