@@ -2,7 +2,7 @@
 #![tactic(auto)]
 
 ghost use Rattle.std.specs.Prelude.{◌≡◌, ◌++◌, ◌≤◌, ◌<◌, length, drop};
-ghost use Rattle.floats.specs.Matrix.{whole, half_of};
+ghost use Rattle.floats.specs.Matrix.{entry, whole, half_of};
 ghost use Rattle.floats.specs.Limits.{Square};
 ghost use Rattle.tridiagonal.specs.Reflection.{tridiagonal_of};
 ghost use Rattle.tridiagonal.specs.Bands.{diagonal_of, coupling, couplings_of};
@@ -28,6 +28,14 @@ pub fn tridiagonalize(a: &mut [f64], n: usize)
     }
 }
 
+// Entry (i, i).
+fn diagonal(a: &[f64], n: usize, i: usize) -> f64
+    requires { (Square n a.now) × (i < n) }
+    ensures { result ≡ entry n (whole n a.now) i i }
+{
+    a[halves::place(i, i)]
+}
+
 // What couples row i and the next.
 fn coupling(a: &[f64], n: usize, i: usize) -> f64
     requires { (Square n a.now) × (i < n) }
@@ -46,8 +54,6 @@ pub fn bands(a: &[f64], n: usize, d: &mut [f64], e: &mut [f64])
     ensures d_after { d.new ≡ diagonal_of n (whole n a.now) ++ drop n d.old }
     ensures e_after { e.new ≡ couplings_of n (whole n a.now) ++ drop n e.old }
 {
-    for i in 0..n {
-        d[i] = a[halves::place(i, i)];
-        e[i] = coupling(a, n, i);
-    }
+    rows::update(&mut d[..n], |i, _| diagonal(a, n, i));
+    rows::update(&mut e[..n], |i, _| coupling(a, n, i));
 }

@@ -12,12 +12,12 @@ ghost use Rattle.std.specs.Prelude.{◌≡◌, ◌+◌, ◌*◌, ◌≤◌, ◌<
 ghost use Rattle.floats.specs.Limits.{max_rows, max_columns, matrix_room};
 ghost use Rattle.columns.specs.Sheet.{Design};
 
-use columns::{SheetSize, SizeAnswer};
+use columns::{Sheet, SheetSize};
 use design::Matrix;
-use eigen::SpectrumError;
+use eigen::Numbers;
 use floats::bits::{float_at, little_endian};
 use floats::limits::{MAX_COLUMNS, MAX_ROWS};
-use outcome::refusals::{EIGENVALUES, PRODUCT, not_finite, of_inverse, of_pivots};
+use outcome::refusals::{TestError, check_inverse};
 use print::{print_cut, print_kept, print_refusal};
 use std::io;
 use std::io::Read;
@@ -31,48 +31,28 @@ const MOST_NUMBERS: usize = MAX_COLUMNS * MAX_ROWS;
 
 const MATRIX_ROOM: usize = MAX_ROWS * (MAX_ROWS + 1);
 
-fn spectrum_of(
-    rt: &impl Print,
-    i: usize,
-    columns: &[f64],
-    size: SheetSize,
-    inverse: Matrix,
-    room: &mut [f64],
-) -> io::Result<()>
-    requires { (Design size columns.now) × (size.columns ≤ size.rows) × (matrix_room size.rows ≤ length room.old) }
-{
-    let mut kept = [0.0f64; MAX_ROWS];
-    let spectrum = eigen::ma_eigenvalues(columns, size, inverse, room, &mut kept);
-    match spectrum {
-        Ok(numbers) => print_kept(rt, i, numbers, &kept),
-        Err(SpectrumError::MatrixNotFinite) => print_refusal(rt, i, not_finite(PRODUCT)),
-        Err(SpectrumError::NumberNotFinite) => print_refusal(rt, i, not_finite(EIGENVALUES)),
-    }
+// The inverse of X'X, worked out from the columns.
+fn inverse_by_columns(sheet: Sheet) -> Result<Matrix, TestError> {
+    let k = sheet.size.columns;
+    let mut l = [[0.0f64; MAX_COLUMNS]; MAX_COLUMNS];
+    design::factor(sheet, &mut l)?;
+    check_inverse(design::inverse_of_factor(l, k), k)
 }
 
-// The spectrum by the inverse of X'X, or the refusal that comes before it.
-fn spectrum_by_columns(
-    rt: &impl Print,
-    i: usize,
-    columns: &[f64],
-    size: SheetSize,
+// The spectrum by the inverse that is given, or else by that of the columns.
+fn spectrum_of(
+    sheet: Sheet,
+    given: Option<Matrix>,
     room: &mut [f64],
-) -> io::Result<()>
-    requires { (Design size columns.now) × (size.columns ≤ size.rows) × (matrix_room size.rows ≤ length room.old) }
+    kept: &mut [f64],
+) -> Result<Numbers, TestError>
+    requires { (sheet.entry.size.columns ≤ sheet.entry.size.rows) × (matrix_room sheet.entry.size.rows ≤ length room.old) × (sheet.entry.size.rows ≤ length kept.old) }
 {
-    let k = size.columns;
-    let mut l = [[0.0f64; MAX_COLUMNS]; MAX_COLUMNS];
-    let pivots = design::factor(columns, size, &mut l);
-    let failed = of_pivots(pivots);
-    if failed.number != 0 {
-        return print_refusal(rt, i, failed);
-    }
-    let inverse = design::inverse_of_factor(l, k);
-    let finite = of_inverse(inverse, k);
-    if finite.number != 0 {
-        return print_refusal(rt, i, finite);
-    }
-    spectrum_of(rt, i, columns, size, inverse, room)
+    let inverse = match given {
+        Some(inverse) => inverse,
+        None => inverse_by_columns(sheet)?,
+    };
+    Ok(eigen::ma_eigenvalues(sheet.run, sheet.size, inverse, room, kept)?)
 }
 
 // Row i of the inverse that is given.
@@ -80,8 +60,8 @@ fn row_in(bytes: &[u8], i: usize) -> [f64; MAX_COLUMNS]
     requires { (i < max_columns) × (8 * (max_columns * max_columns) ≤ length bytes.now) }
 {
     let mut row = [0.0f64; MAX_COLUMNS];
-    for j in 0..MAX_COLUMNS {
-        row[j] = float_at(bytes, 8 * (MAX_COLUMNS * i + j));
+    for (j, x) in row.iter_mut().enumerate() {
+        *x = float_at(bytes, 8 * (MAX_COLUMNS * i + j));
     }
     row
 }
@@ -90,8 +70,8 @@ fn inverse_in(bytes: &[u8]) -> Matrix
     requires { 8 * (max_columns * max_columns) ≤ length bytes.now }
 {
     let mut inverse = [[0.0f64; MAX_COLUMNS]; MAX_COLUMNS];
-    for i in 0..MAX_COLUMNS {
-        inverse[i] = row_in(bytes, i);
+    for (i, row) in inverse.iter_mut().enumerate() {
+        *row = row_in(bytes, i);
     }
     inverse
 }
@@ -100,8 +80,8 @@ fn inverse_in(bytes: &[u8]) -> Matrix
 fn read_columns(bytes: &[u8], count: usize, run: &mut [f64])
     requires { (8 * (max_columns * max_columns) + 8 * count ≤ length bytes.now) × (count ≤ length run.old) }
 {
-    for t in 0..count {
-        run[t] = float_at(bytes, INVERSE_BYTES + 8 * t);
+    for (t, x) in run[..count].iter_mut().enumerate() {
+        *x = float_at(bytes, INVERSE_BYTES + 8 * t);
     }
 }
 
@@ -123,10 +103,19 @@ fn design_of(
         return Ok(false);
     }
     read_columns(bytes, count, run);
-    if little_endian(head, 16, 8) == 0 {
-        spectrum_by_columns(rt, i, &run[..count], size, room)?;
+    let sheet = Sheet {
+        run: &run[..count],
+        size,
+    };
+    let given = if little_endian(head, 16, 8) == 0 {
+        None
     } else {
-        spectrum_of(rt, i, &run[..count], size, inverse_in(bytes), room)?;
+        Some(inverse_in(bytes))
+    };
+    let mut kept = [0.0f64; MAX_ROWS];
+    match spectrum_of(sheet, given, room, &mut kept) {
+        Ok(numbers) => print_kept(rt, i, numbers, &kept)?,
+        Err(why) => print_refusal(rt, i, why.into())?,
     }
     Ok(true)
 }
@@ -142,8 +131,7 @@ fn one_design(
 {
     let n = little_endian(head, 0, 8) as usize;
     let k = little_endian(head, 8, 8) as usize;
-    let answer = SheetSize::new(n, k);
-    let SizeAnswer::Fits(size) = answer else {
+    let Ok(size) = SheetSize::new(n, k) else {
         return Ok(false);
     };
     if size.columns > size.rows {

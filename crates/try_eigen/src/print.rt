@@ -4,10 +4,6 @@ use floats::bits::bits_of;
 use outcome::Refusal;
 use std::io;
 
-fn mark(b: bool) -> u64 {
-    if b { 1 } else { 0 }
-}
-
 fn print_pattern(rt: &impl Print, x: f64) -> io::Result<()> {
     let bits = bits_of(x);
     print!(rt; " {bits:016x}")
@@ -20,12 +16,10 @@ pub fn print_refusal(rt: &impl Print, i: usize, why: Refusal) -> io::Result<()> 
 
 pub fn print_kept(rt: &impl Print, i: usize, numbers: Numbers, kept: &[f64]) -> io::Result<()> {
     let work = numbers.work;
-    let (count, sweeps, stuck) = (numbers.count, work.sweeps, mark(numbers.stuck));
+    let (count, sweeps, stuck) = (numbers.count, work.sweeps, u64::from(numbers.stuck));
     print!(rt; "{i} 0 0 {count} {sweeps} {stuck}")?;
-    for t in 0..kept.len() {
-        if t < count {
-            print_pattern(rt, kept[t])?;
-        }
+    for x in kept.iter().take(count) {
+        print_pattern(rt, *x)?;
     }
     println!(rt)
 }

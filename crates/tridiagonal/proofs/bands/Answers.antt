@@ -1,30 +1,25 @@
-use lib.Ieee.{nan}
-use Rattle.floats.proofs.HalfLaws.{entry_whole, half-low, triangle-apart}
-use Rattle.floats.proofs.RowLaws.{filled_none, filled_more}
-use Prim.Native.Nat.{◌<◌}
+use Rattle.std.proofs.Common.{rules}
+use Prim.Native.Nat.{ℕ, ◌≤◌, ◌<◌}
 use native.Mathlib.Omega.{arith}
-use native.Mathlib.Nat.{le_antisymm}
-use mathlib.Core.Path.{refl, ◌∙◌}
-use lib.ListN.{length, length-set}
-use borrow.Author.Rules.{rules}
+use mathlib.Core.List.{List, ◌++◌}
+use mathlib.Core.Path.{◌≡◌, ap, ◌∙◌}
+use lib.ListN.{length, take, drop, length-take}
+use lib.Ieee.{Float}
+use Rattle.floats.specs.Words.{◌‼◌}
+use Rattle.floats.specs.Tables.{table}
+use Rattle.floats.specs.Matrix.{entry, whole}
+use Rattle.floats.proofs.TableLaws.{is-table}
+use Rattle.tridiagonal.specs.Bands.{coupling}
 use Rattle.tridiagonal.proofs.bands.Goals as goal
 
-pub loop-i-init : goal.loop-i-init
-loop-i-init c = (omega arith, refl, refl, filled_none _ _, filled_none _ _)
-
-pub offset_bounds-a-place : goal.offset_bounds-a-place
-offset_bounds-a-place c = omega (arith, triangle-apart c.loop-i-test.true)
-
-pub bounds-a-place : goal.bounds-a-place
-bounds-a-place c = omega (arith, triangle-apart c.loop-i-test.true)
-
-pub loop-i-preserved : goal.loop-i-preserved
-loop-i-preserved c = let args = c.args in
-    let loop = c.loop-i in
-    let h : loop.i < length args.d.now = search rules in
-    let k : loop.i < length args.e.now = search rules in
-    let here = entry_whole _ _ _ _ c.loop-i-test.true c.loop-i-test.true ∙ half-low args.a.now loop.i loop.i (omega arith) in
-    (omega arith, simp length-set (omega arith), simp length-set (omega arith), rw (loop.invariant.3, c.place.ensures, ← here) (filled_more _ _ _ nan h), rw (loop.invariant.4, c.coupling.ensures) (filled_more _ _ _ nan k))
+-- the first n numbers made anew, the rest as it was
+banded : (f : ℕ → Float) (n : ℕ) (l r : List Float) → n ≤ length l → length r ≡ length (take n l) → ((j : ℕ) → j < length (take n l) → r ‼ j ≡ f j) → r ++ drop n l ≡ table f n ++ drop n l
+banded f n l r h e g = let w : length (take n l) ≡ n = simp length-take (omega arith) in ap (λ r. r ++ drop n l) (is-table f (take n l) r e g ∙ ap (table f) w)
 
 pub returns : goal.returns
-returns c = let z = le_antisymm c.loop-i.invariant.0 c.loop-i-test.false in record { d_after = c.loop-i.invariant.3 ∙ rw z; e_after = c.loop-i.invariant.4 ∙ rw z }
+returns c = let args = c.args in
+    let a = whole args.n args.a.now in
+    record {
+      d_after = banded (λ i. entry args.n a i i) args.n args.d.now c.update.new.row c.requires.1 c.update.ensures.kept (λ j h. search (rules, c.update.ensures.each j h));
+      e_after = banded (coupling args.n a) args.n args.e.now c.update-2.new.row c.requires.2 c.update-2.ensures.kept (λ j h. search (rules, c.update-2.ensures.each j h));
+    }
