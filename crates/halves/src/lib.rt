@@ -41,8 +41,8 @@ fn copy_column(row: &mut [f64], a: &[f64], i: usize, from: usize)
     ensures { row.new ≡ table (λ s. half_entry a.now i (from + s)) (length row.old) }
 {
     let mut at = place(from, i);
-    for s in 0..row.len() {
-        row[s] = a[at];
+    for (s, x) in row.iter_mut().enumerate() {
+        *x = a[at];
         at = at + (from + s + 1);
     }
 }
@@ -77,9 +77,9 @@ fn add_eight(row: &mut [f64], xs: &[f64], stride: usize, w: &[f64])
     ensures { row.new ≡ table (λ j. sum_from (row.old ‼ j) 8 (λ s. xs.now ‼ (row_start stride s + j) ⊗ w.now ‼ s)) (length row.old) }
 {
     let fifth = 4 * stride + 6;
-    for j in 0..row.len() {
-        let a = four_steps(row[j], xs, j, stride, w, 0);
-        row[j] = four_steps(a, xs, fifth + j, stride + 4, w, 4);
+    for (j, x) in row.iter_mut().enumerate() {
+        let a = four_steps(*x, xs, j, stride, w, 0);
+        *x = four_steps(a, xs, fifth + j, stride + 4, w, 4);
     }
 }
 
@@ -93,17 +93,17 @@ pub fn add_rows(row: &mut [f64], xs: &[f64], stride: usize, w: &[f64])
         return;
     }
     let mut start = 0usize;
-    for t in 0..w.len() {
+    for (t, x) in w.iter().enumerate() {
         let end = start + row.len();
-        rows::add_one(row, &xs[start..end], w[t]);
+        rows::add_one(row, &xs[start..end], *x);
         start = start + (stride + t);
     }
 }
 
 // The sums of the products of eight rows with `v`. They are read in an order as that of `rows::four_terms`.
-fn eight_dots(p: &mut [f64], xs: &[f64], stride: usize, v: &[f64])
-    requires { (stride ≤ max_rows) × (length p.old ≡ 8) × (ReachRows 8 stride (length v.now) (length xs.now)) }
-    ensures { p.new ≡ table (λ s. sum_of (length v.now) (λ j. xs.now ‼ (row_start stride s + j) ⊗ v.now ‼ j)) 8 }
+fn eight_dots(xs: &[f64], stride: usize, v: &[f64]) -> [f64; 8]
+    requires { (stride ≤ max_rows) × (ReachRows 8 stride (length v.now) (length xs.now)) }
+    ensures { result ≡ table (λ s. sum_of (length v.now) (λ j. xs.now ‼ (row_start stride s + j) ⊗ v.now ‼ j)) 8 }
 {
     let mut a = -0.0f64;
     let mut b = -0.0f64;
@@ -113,25 +113,17 @@ fn eight_dots(p: &mut [f64], xs: &[f64], stride: usize, v: &[f64])
     let mut f = -0.0f64;
     let mut g = -0.0f64;
     let mut h = -0.0f64;
-    for j in 0..v.len() {
-        let x = v[j];
-        a = a + xs[j] * x;
-        e = e + xs[4 * stride + 6 + j] * x;
-        c = c + xs[2 * stride + 1 + j] * x;
-        g = g + xs[6 * stride + 15 + j] * x;
-        b = b + xs[stride + j] * x;
-        f = f + xs[5 * stride + 10 + j] * x;
-        d = d + xs[3 * stride + 3 + j] * x;
-        h = h + xs[7 * stride + 21 + j] * x;
+    for (j, x) in v.iter().enumerate() {
+        a = a + xs[j] * *x;
+        e = e + xs[4 * stride + 6 + j] * *x;
+        c = c + xs[2 * stride + 1 + j] * *x;
+        g = g + xs[6 * stride + 15 + j] * *x;
+        b = b + xs[stride + j] * *x;
+        f = f + xs[5 * stride + 10 + j] * *x;
+        d = d + xs[3 * stride + 3 + j] * *x;
+        h = h + xs[7 * stride + 21 + j] * *x;
     }
-    p[0] = a;
-    p[1] = b;
-    p[2] = c;
-    p[3] = d;
-    p[4] = e;
-    p[5] = f;
-    p[6] = g;
-    p[7] = h;
+    [a, b, c, d, e, f, g, h]
 }
 
 // The sums of the products of rows of a half, up to eight, the first `stride` numbers long, with `v`: one for each number of `p`.
@@ -140,12 +132,12 @@ pub fn row_dots(p: &mut [f64], xs: &[f64], stride: usize, v: &[f64])
     ensures { p.new ≡ table (λ s. sum_of (length v.now) (λ j. xs.now ‼ (row_start stride s + j) ⊗ v.now ‼ j)) (length p.old) }
 {
     if p.len() == 8 {
-        eight_dots(p, xs, stride, v);
+        p.copy_from_slice(&eight_dots(xs, stride, v));
         return;
     }
     let mut start = 0usize;
-    for t in 0..p.len() {
-        p[t] = floats::sums::sum_products(xs, start, v, 0, v.len());
+    for (t, x) in p.iter_mut().enumerate() {
+        *x = floats::sums::sum_products(xs, start, v, 0, v.len());
         start = start + (stride + t);
     }
 }

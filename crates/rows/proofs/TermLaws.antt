@@ -1,6 +1,6 @@
 -- Laws of sums that go on: none, one more, and that the terms may be added in groups. Assumes nothing.
 use Prim.Native.Nat.{ℕ, zero, suc, ◌+◌, ◌*◌, ◌≤◌, ◌<◌}
-use native.Mathlib.Nat.{mul-le-mul_right, add-mul}
+use native.Mathlib.Nat.{add-mul}
 use native.Mathlib.Numerals.{add-one}
 use native.Mathlib.Omega.{arith}
 use mathlib.Core.Path.{◌≡◌, refl, ap, sym, ◌∙◌}
@@ -13,7 +13,7 @@ use Rattle.floats.specs.Sums.{sum_of}
 use Rattle.floats.specs.Tables.{table, part}
 use Rattle.floats.proofs.ListLaws.{get_d_part}
 use Rattle.floats.proofs.TableLaws.{length-table, get_d-table, table_same}
-use Rattle.rows.specs.Terms.{Reach, sum_from}
+use Rattle.rows.specs.Terms.{sum_from}
 
 module _ (x : Float) (f : ℕ → Float) where
   pub from-none : sum_from x 0 f ≡ x
@@ -53,17 +53,24 @@ pub four-of : (x : Float) (xs w : List Float) (place : ℕ → ℕ) (a b c d s :
 unfolding sum_from
 four-of x xs w place a b c d s e f g h = let z : s + 0 ≡ s = omega arith in rw (e, f, g, h, z)
 
--- four more after 4 q, run s beginning at `start s`
-pub four-more : (x : Float) (xs w : List Float) (start place : ℕ → ℕ) (t j q : ℕ) {a b : Float} → b ≡ sum_from a 4 (λ i. xs ‼ place i ⊗ w ‼ (t + 4 * q + i))
-    → a ≡ sum_from x (4 * q) (λ s. xs ‼ (start s + j) ⊗ w ‼ (t + s)) → ((i : ℕ) → place i ≡ start (4 * q + i) + j) → b ≡ sum_from x (4 * (q + 1)) (λ s. xs ‼ (start s + j) ⊗ w ‼ (t + s))
-four-more x xs w start place t j q p e r =
-    let z : 4 * q + 4 ≡ 4 * (q + 1) = omega arith in
-    p ∙ rw e (from-same _ 4 _ _ (λ i h. let y : t + 4 * q + i ≡ t + (4 * q + i) = omega arith in rw (r i, y)))
-    ∙ from-group x (λ s. xs ‼ (start s + j) ⊗ w ‼ (t + s)) (4 * q) 4 ∙ ap (λ k. sum_from x k (λ s. xs ‼ (start s + j) ⊗ w ‼ (t + s))) z
-
 -- run t + i of four, counted from run t + 4 q
-pub run-place : (stride t j q i : ℕ) → (t + 4 * q) * stride + j + i * stride ≡ (t + (4 * q + i)) * stride + j
+run-place : (stride t j q i : ℕ) → (t + 4 * q) * stride + j + i * stride ≡ (t + (4 * q + i)) * stride + j
 run-place stride t j q i = let y = add-mul (t + 4 * q) i stride in let z : t + 4 * q + i ≡ t + (4 * q + i) = omega arith in rw (← z) (omega arith)
+
+-- four more after k
+four-after : (x : Float) (term next : ℕ → Float) (k : ℕ) {a b : Float} → b ≡ sum_from a 4 next → a ≡ sum_from x k term → ((i : ℕ) → next i ≡ term (k + i)) → b ≡ sum_from x (k + 4) term
+four-after x term next k p e r = p ∙ rw e (from-same _ 4 _ _ (λ i h. r i)) ∙ from-group x term k 4
+
+-- run s beginning at `start s`; and counted from run t, four after 4 q
+pub four-more : (x : Float) (xs w : List Float) (start : ℕ → ℕ) (j k : ℕ) (place : ℕ → ℕ) (a b : Float) → b ≡ sum_from a 4 (λ i. xs ‼ place i ⊗ w ‼ (k + i))
+    → a ≡ sum_from x k (λ s. xs ‼ (start s + j) ⊗ w ‼ s) → ((i : ℕ) → place i ≡ start (k + i) + j) → b ≡ sum_from x (k + 4) (λ s. xs ‼ (start s + j) ⊗ w ‼ s)
+four-more x xs w start j k place a b p e r = four-after x _ _ k p e (λ i. rw (r i))
+
+pub fours-more : (x : Float) (xs w : List Float) (stride t j q : ℕ) {a b : Float} → b ≡ sum_from a 4 (λ i. xs ‼ ((t + 4 * q) * stride + j + i * stride) ⊗ w ‼ (t + 4 * q + i))
+    → a ≡ sum_from x (4 * q) (λ s. xs ‼ ((t + s) * stride + j) ⊗ w ‼ (t + s)) → b ≡ sum_from x (4 * (q + 1)) (λ s. xs ‼ ((t + s) * stride + j) ⊗ w ‼ (t + s))
+fours-more x xs w stride t j q p e =
+    let z : 4 * (q + 1) ≡ 4 * q + 4 = omega arith in
+    rw z (four-after x (λ s. xs ‼ ((t + s) * stride + j) ⊗ w ‼ (t + s)) _ (4 * q) p e (λ i. let y : t + 4 * q + i ≡ t + (4 * q + i) = omega arith in rw (run-place stride t j q i, y)))
 
 -- ---- the terms of a row of sums, group by group, run s beginning at `start s`
 

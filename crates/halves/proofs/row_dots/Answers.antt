@@ -8,10 +8,10 @@ use borrow.Author.Rules.{rules}
 use Rattle.halves.proofs.row_dots.Goals as goal
 
 pub eight_dots-requires : goal.eight_dots-requires
-eight_dots-requires c = (search rules, search rules, rw c.if-p-eq8.true at c.requires.2)
+eight_dots-requires c = (search rules, rw c.if-p-eq8.true at c.requires.2)
 
 pub returns-then-p-eq8 : goal.returns-then-p-eq8
-returns-then-p-eq8 c = rw c.if-p-eq8.true c.eight_dots.ensures
+returns-then-p-eq8 c = rw c.if-p-eq8.true (c.copy_from_slice.ensures.after ∙ c.eight_dots.ensures)
 
 pub loop-t-init : goal.loop-t-init
 loop-t-init c = (omega arith, refl, refl, sym (start_none _), filled_none _ _)

@@ -1,7 +1,7 @@
-use Rattle.std.proofs.Common.{◌<◌, ◌+◌, ◌*◌, length, sym, le_antisymm}
+use Rattle.std.proofs.Common.{◌<◌, length, sym, le_antisymm}
 use Rattle.std.specs.Float.{nan}
 use Rattle.floats.proofs.RowLaws.{filled_none, filled-here, filled_more}
-use Rattle.rows.proofs.TermLaws.{from-none, four-more, run-place}
+use Rattle.rows.proofs.TermLaws.{from-none, fours-more}
 use Rattle.rows.proofs.add_next.Goals as goal
 
 pub loop-j-init : goal.loop-j-init
@@ -13,7 +13,7 @@ loop-q-init g c = sym (from-none _ _)
 pub loop-q-preserved : goal.loop-q-preserved
 loop-q-preserved g c =
     let a = c.args in
-    four-more _ a.xs.now a.w.now (λ s. (a.t + s) * a.stride) _ a.t c.loop-j.j c.loop-q.q c.four_terms-sum.ensures c.loop-q.invariant (λ i. run-place a.stride a.t c.loop-j.j c.loop-q.q i)
+    fours-more _ a.xs.now a.w.now a.stride a.t c.loop-j.j c.loop-q.q c.four_terms-sum.ensures c.loop-q.invariant
 
 pub loop-j-preserved : goal.loop-j-preserved
 loop-j-preserved g c =

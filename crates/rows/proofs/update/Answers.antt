@@ -1,4 +1,4 @@
-use Rattle.std.proofs.Common.{ℕ, ◌≡◌, ◌<◌, ◌≤◌, length, Float, refl, subst, arith}
+use Rattle.std.proofs.Common.{◌<◌, length, Float, refl, subst, arith}
 use Rattle.floats.specs.Words.{◌‼◌}
 use Rattle.rows.proofs.UpdateLaws.{stored-more, stored-rest}
 use Rattle.rows.proofs.update.Goals as goal
