@@ -1,7 +1,6 @@
 """Rattle without its clauses is Rust. This cuts the clauses out.
 
-Cut: `ghost use ..;` lines, the clauses `requires`, `ensures` and `ghost` with their braces, ghost fields and members, the attribute `tactic`, and
-`Drop` in a list of derives, which Rust has of itself.
+Cut: `ghost use ..;` lines, the clauses `requires`, `ensures` and `ghost` with their braces, ghost fields and members, the attribute `tactic`, and `Drop` in a derive.
 Opened: private modules, so that a function can be named by its module's path.
 Sent to oracle/standins/rattle_std.rs: what Rattle's std has and Rust's has not, as the runtime that `main` takes, which it is here given at its head.
 Written as Rust has it: the head of a `fmt`, which in Rattle has a parameter for what is written to.
@@ -155,17 +154,20 @@ def with_host(text):
     return text[:head] + "#[allow(unused_imports)] use rattle_std::host::{%s}; " % ", ".join(used) + text[head:]
 
 
-def without_drop(found):
-    """A line of derives without `Drop`."""
-    names = [name for name in re.split(r"[,\s]+", found[2]) if name and name != "Drop"]
-    return (found[1] + ("#[derive(%s)]" % ", ".join(names) if names else "")) + "\n" * found[2].count("\n")
+def without_drop(text):
+    """`text` with no `Drop` in a derive: Rust drops what Rattle asks a derive for."""
+
+    def others(found):
+        names = [name.strip() for name in found[1].split(",") if name.strip() not in ("", "Drop")]
+        return "#[derive(%s)]" % ", ".join(names) if names else ""
+
+    return re.sub(r"#\[derive\(([^)\n]*)\)\]", others, text)
 
 
 def to_rust(text):
     """The Rust of one .rt file."""
-    text = re.sub(r"\bpub ghost\b", "ghost", text)
+    text = without_drop(re.sub(r"\bpub ghost\b", "ghost", text))
     text = re.sub(r"^([ \t]*)#!?\[tactic\([^\]]*\)\]", r"\1", without_clauses(text), flags=re.M)
-    text = re.sub(r"^([ \t]*)#\[derive\(([^)]*)\)\]", without_drop, text, flags=re.M)
     text = re.sub(r"^mod ", "pub mod ", text, flags=re.M)
     return with_host(text)
 
