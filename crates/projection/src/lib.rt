@@ -23,54 +23,6 @@ use floats::limits::{MAX_COLUMNS, MAX_ROWS};
 
 mod matrix;
 
-// Entry (t, c) of X (X'X)^-1.
-fn weight(x: &[f64], inv: &Matrix, size: SheetSize, t: usize, c: usize) -> f64
-    requires { (Design size x.now) × (t < size.rows) × (c < max_columns) }
-    ensures { result ≡ weight x.now inv.now size.rows size.columns t c }
-{
-    let n = size.rows;
-    let k = size.columns;
-    let mut s = -0.0f64;
-    for m in 0..k {
-        s = s + x[m * n + t] * inv[m][c];
-    }
-    s
-}
-
-// Row i of X (X'X)^-1.
-fn weights(u: &mut [f64], x: &[f64], inv: &Matrix, size: SheetSize, i: usize)
-    requires { (length u.old ≡ size.columns) × (Design size x.now) × (i < size.rows) }
-    ensures { u.new ≡ table (λ c. weight x.now inv.now size.rows size.columns i c) size.columns }
-{
-    let k = size.columns;
-    for c in 0..k {
-        u[c] = weight(x, inv, size, i, c);
-    }
-}
-
-// X (X'X)^-1 X'; `u` is room for a row of weights.
-fn hat(m: &mut [f64], u: &mut [f64], x: &[f64], inv: &Matrix, size: SheetSize)
-    requires { (Square size.rows m.old) × (length u.old ≡ size.columns) × (Design size x.now) }
-    ensures { m.new ≡ half (hat x.now inv.now size.rows size.columns) size.rows }
-{
-    let n = size.rows;
-    rows::fill(m, -0.0);
-    for i in 0..n {
-        weights(u, x, inv, size, i);
-        matrix::add_to_row(m, i, x, n, u);
-    }
-}
-
-// M = I - X (X'X)^-1 X'.
-fn residual_maker(m: &mut [f64], u: &mut [f64], x: &[f64], inv: &Matrix, size: SheetSize)
-    requires { (Square size.rows m.old) × (length u.old ≡ size.columns) × (Design size x.now) }
-    ensures { m.new ≡ half (residual x.now inv.now size.rows size.columns) size.rows }
-{
-    hat(m, u, x, inv, size);
-    matrix::negate(m);
-    matrix::add_identity(m, size.rows);
-}
-
 // Row t of A M: three rows of M make it. `before` and `here` hold rows t - 1 and t of M, and are then a row on, as far as there is one.
 fn differences(w: &mut [f64], m: &[f64], n: usize, t: usize, before: &mut [f64], here: &mut [f64])
     requires { (length w.old ≡ n) × (Square n m.now) × (t < n) × (before.old ≡ table (λ j. half_entry m.now (t - 1) j) n) × (here.old ≡ table (λ j. half_entry m.now t j) n) }
@@ -205,21 +157,77 @@ const FEW_WIDE: usize = TERMS * FEW;
 
 const ANY_WIDE: usize = TERMS * MAX_ROWS;
 
-// M into the second half of the room, then M A M into the first.
-fn fill_room(room: &mut [f64], x: &[f64], inv: &Matrix, size: SheetSize)
-    requires { (Squares size.rows room.old) × (Design size x.now) }
-    ensures { room.new ≡ half (product x.now inv.now size.rows size.columns) size.rows ++ (half (residual x.now inv.now size.rows size.columns) size.rows ++ drop (triangle size.rows + triangle size.rows) room.old) }
-{
-    let n = size.rows;
-    let k = size.columns;
-    let half = halves::place(n, 0);
-    let full = half + half;
-    let mut u = [0.0f64; MAX_COLUMNS];
-    residual_maker(&mut room[half..full], &mut u[..k], x, inv, size);
-    if n <= FEW {
-        products_within::<FEW_WIDE, FEW>(room, n);
-    } else {
-        products_within::<ANY_WIDE, MAX_ROWS>(room, n);
+// What M is made of: the columns of a sheet, X, and (X'X)^-1.
+#[derive(Clone, Copy)]
+struct Fit<'a> {
+    x: &'a [f64],
+    inv: &'a Matrix,
+    size: SheetSize,
+    ghost design: { Design size x.now },
+}
+
+impl<'a> Fit<'a> {
+    // Entry (t, c) of X (X'X)^-1.
+    fn weight(&self, t: usize, c: usize) -> f64
+        requires { (t < self.now.size.rows) × (c < max_columns) }
+        ensures { result ≡ weight self.now.x.now self.now.inv.now self.now.size.rows self.now.size.columns t c }
+    {
+        let n = self.size.rows;
+        let k = self.size.columns;
+        let mut s = -0.0f64;
+        for m in 0..k {
+            s = s + self.x[m * n + t] * self.inv[m][c];
+        }
+        s
+    }
+
+    // Row i of X (X'X)^-1.
+    fn weights(&self, u: &mut [f64], i: usize)
+        requires { (length u.old ≡ self.now.size.columns) × (i < self.now.size.rows) }
+        ensures { u.new ≡ table (λ c. weight self.now.x.now self.now.inv.now self.now.size.rows self.now.size.columns i c) self.now.size.columns }
+    {
+        rows::update(u, |c, _| self.weight(i, c));
+    }
+
+    // X (X'X)^-1 X'; `u` is room for a row of weights.
+    fn hat(&self, m: &mut [f64], u: &mut [f64])
+        requires { (Square self.now.size.rows m.old) × (length u.old ≡ self.now.size.columns) }
+        ensures { m.new ≡ half (hat self.now.x.now self.now.inv.now self.now.size.rows self.now.size.columns) self.now.size.rows }
+    {
+        let n = self.size.rows;
+        rows::fill(m, -0.0);
+        for i in 0..n {
+            self.weights(u, i);
+            matrix::add_to_row(m, i, self.x, n, u);
+        }
+    }
+
+    // M = I - X (X'X)^-1 X'.
+    fn residual_maker(&self, m: &mut [f64], u: &mut [f64])
+        requires { (Square self.now.size.rows m.old) × (length u.old ≡ self.now.size.columns) }
+        ensures { m.new ≡ half (residual self.now.x.now self.now.inv.now self.now.size.rows self.now.size.columns) self.now.size.rows }
+    {
+        self.hat(m, u);
+        matrix::negate(m);
+        matrix::add_identity(m, self.size.rows);
+    }
+
+    // M into the second half of the room, then M A M into the first.
+    fn fill_room(&self, room: &mut [f64])
+        requires { Squares self.now.size.rows room.old }
+        ensures { room.new ≡ half (product self.now.x.now self.now.inv.now self.now.size.rows self.now.size.columns) self.now.size.rows ++ (half (residual self.now.x.now self.now.inv.now self.now.size.rows self.now.size.columns) self.now.size.rows ++ drop (triangle self.now.size.rows + triangle self.now.size.rows) room.old) }
+    {
+        let n = self.size.rows;
+        let k = self.size.columns;
+        let half = halves::place(n, 0);
+        let full = half + half;
+        let mut u = [0.0f64; MAX_COLUMNS];
+        self.residual_maker(&mut room[half..full], &mut u[..k]);
+        if n <= FEW {
+            products_within::<FEW_WIDE, FEW>(room, n);
+        } else {
+            products_within::<ANY_WIDE, MAX_ROWS>(room, n);
+        }
     }
 }
 
@@ -230,7 +238,8 @@ pub fn mam(room: &mut [f64], x: &[f64], inv: Matrix, size: SheetSize) -> Option<
     ensures value { result ≡ first_bad (half_of size.rows (mam_of x.now inv size.rows size.columns)) }
     ensures room_after { room.new ≡ half_of size.rows (mam_of x.now inv size.rows size.columns) ++ (half_of size.rows (residual_maker x.now inv size.rows size.columns) ++ drop (matrix_room size.rows) room.old) }
 {
-    fill_room(room, x, &inv, size);
+    let fit = Fit { x, inv: &inv, size };
+    fit.fill_room(room);
     let searched = halves::place(size.rows, 0);
     floats::search::first_bad(&room[..searched])
 }

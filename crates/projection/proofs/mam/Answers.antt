@@ -11,7 +11,7 @@ use Rattle.projection.proofs.mam.Goals as goal
 
 pub fill_room-requires : goal.fill_room-requires
 fill_room-requires c = let pre = c.requires in
-    ((omega (arith, triangle-twice c.args.size.rows, pre.0), pre.1.0), pre.1)
+    (omega (arith, triangle-twice c.args.size.rows, pre.0), pre.1.0)
 
 pub slice_bounds-first_bad-end : goal.slice_bounds-first_bad-end
 slice_bounds-first_bad-end c = let h = triangle-twice c.args.size.rows in search rules

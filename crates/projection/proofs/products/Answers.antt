@@ -5,7 +5,7 @@ use Rattle.projection.proofs.RoomLaws.{half-lent, terms_to, terms-begin, terms-m
 use Prim.Native.Nat.{◌+◌, ◌*◌, min}
 use native.Mathlib.Omega.{arith}
 use native.Mathlib.Nat.{add-zero}
-use mathlib.Core.Path.{◌≡◌, refl, ap, sym, ◌∙◌}
+use mathlib.Core.Path.{◌≡◌, ap, sym, ◌∙◌}
 use borrow.Author.Rules.{rules}
 use Rattle.projection.proofs.products.Goals as goal
 

@@ -2,9 +2,9 @@
 use mathlib.Core.Path.{◌∙◌}
 use Rattle.projection.proofs.IdentityLaws.{identified}
 use Rattle.projection.proofs.ProjectionLaws.{residual-of}
-use Rattle.projection.proofs.residual_maker.Goals as goal
+use Rattle.projection.proofs.Fit.residual_maker.Goals as goal
 
 pub returns : goal.returns
 unfolding identified
 returns c = let args = c.args in
-    c.add_identity.ensures ∙ residual-of args.x.now args.inv.now args.size.rows args.size.columns _ _ c.hat.ensures c.negate.ensures
+    c.add_identity.ensures ∙ residual-of args.self.now.x.now args.self.now.inv.now args.self.now.size.rows args.self.now.size.columns _ _ c.hat.ensures c.negate.ensures

@@ -4,7 +4,7 @@ use Rattle.projection.proofs.ProjectionLaws.{hat_to}
 use Prim.Native.Nat.{◌≤◌}
 use mathlib.Core.Path.{◌≡◌}
 use lib.ListN.{length}
-use Rattle.projection.proofs.hat.Given as goal
+use Rattle.projection.proofs.Fit.hat.Given as goal
 
 abbrev pub invariant-loop-i : goal.invariant-loop-i
-invariant-loop-i l = (l.i ≤ l.n) × (length l.m ≡ triangle l.n) × (length l.u ≡ l.size.columns) × (l.m ≡ hat_to l.x l.inv l.n l.size.columns l.i)
+invariant-loop-i l = (l.i ≤ l.n) × (length l.m ≡ triangle l.n) × (length l.u ≡ l.self.size.columns) × (l.m ≡ hat_to l.self.x.now l.self.inv.now l.n l.self.size.columns l.i)
