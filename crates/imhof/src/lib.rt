@@ -46,7 +46,7 @@ impl Part {
     }
 }
 
-// Whether another bisection may follow, the errors are small enough, or a number was not finite.
+// Whether another bisection may follow, the errors are small enough, or a number was not finite. Three plain cases, of which the theorems on stages speak: no Option or Result.
 #[derive(Clone, Copy)]
 pub enum Standing {
     Open,

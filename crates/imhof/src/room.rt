@@ -1,4 +1,5 @@
 // The part room: four runs of MOST_PARTS numbers, for left ends, right ends, values and error estimates.
+// Kept as four runs in one lent slice: `parts_after` of prob_below_zero says of each number in it what it holds afterwards, and callers in C lend it.
 ghost use Rattle.std.specs.Prelude.{◌≡◌, ◌<◌, ◌≤◌, ◌+◌, length, ◌++◌, ◌∷◌, []};
 ghost use Rattle.floats.specs.Sums.{sum_run};
 ghost use Rattle.imhof.specs.Parts.{most_parts, values_of, errors_of, worst_of, bisected_at, last_greatest, part_at, without};
@@ -60,6 +61,7 @@ fn last_greatest(errors: &[f64]) -> usize
     ensures bound { result < length errors.now }
     ensures value { result ≡ last_greatest errors.now }
 {
+    // no max_by: the library's total_cmp wants numbers that are no NaN
     let mut w = 0;
     for (i, e) in errors.iter().enumerate() {
         if !comes_before(*e, errors[w]) {

@@ -63,6 +63,7 @@ fn laid(a: f64, b: f64) -> [f64; 16]
     let c = 0.5 * (a + b);
     let h = 0.5 * (b - a);
     let mut s = [c; 16];
+    // each pair by its place: at chunks_mut a proof knows no element
     for (i, x) in GK_X[..7].iter().enumerate() {
         let x = h * *x;
         s[2 * i] = c - x;
@@ -78,6 +79,7 @@ fn gathered(f: &[f64; 16], a: f64, b: f64) -> Part
     let h = 0.5 * (b - a);
     let mut k = GK_WK[7] * f[14];
     let mut g = GK_WG[3] * f[14];
+    // pairs by their place, as above; Gauss's weights are those of every second pair, so no zip is plainer
     for (i, w) in GK_WK[..7].iter().enumerate() {
         let pair = f[2 * i] + f[2 * i + 1];
         k = k + *w * pair;

@@ -34,6 +34,7 @@ fn add_near(a: f64, minus: bool, u: &Lanes, angles: &mut Lanes, logs: &mut Lanes
     ensures angles_after { angles.new ≡ added_to (λ x. cond minus (neg (angle_by points (a ⊗ x))) (angle_by points (a ⊗ x))) u.now angles.old }
     ensures logs_after { logs.new ≡ added_to (λ x. log_by points (square_of (a ⊗ x))) u.now logs.old }
 {
+    // both sums by their place: at zip over iter_mut a proof knows no element
     for (j, u) in u.iter().enumerate() {
         let x = a * *u;
         let y = x * x;
@@ -48,6 +49,7 @@ fn add_any(w: f64, u: &Lanes, angles: &mut Lanes, logs: &mut Lanes)
     ensures angles_after { angles.new ≡ added_to (λ x. atan_of (w ⊗ x)) u.now angles.old }
     ensures logs_after { logs.new ≡ added_to (λ x. ln1p_of (square_of (w ⊗ x))) u.now logs.old }
 {
+    // as in add_near
     for (j, u) in u.iter().enumerate() {
         let x = w * *u;
         angles[j] = angles[j] + elementary::atan(x);

@@ -138,8 +138,8 @@ fn print_cut(rt: &impl Print) -> io::Result<()> {
 fn read_numbers(bytes: &[u8], count: usize, numbers: &mut [f64])
     requires { (8 * count ≤ length bytes.now) × (count ≤ length numbers.old) }
 {
-    for t in 0..count {
-        numbers[t] = float_at(bytes, 8 * t);
+    for (t, x) in numbers[..count].iter_mut().enumerate() {
+        *x = float_at(bytes, 8 * t);
     }
 }
 

@@ -12,6 +12,7 @@ pub fn shift(eigenvalues: &[f64], d: f64, weights: &mut [f64]) -> usize
     ensures count { result ≡ length (weights_of eigenvalues.now d) }
     ensures weights_after { weights.new ≡ weights_of eigenvalues.now d ++ drop (length (weights_of eigenvalues.now d)) weights.old }
 {
+    // stored by the place m: at zip over iter_mut a proof knows no element
     let mut m = 0;
     for x in eigenvalues {
         let w = *x - d;
