@@ -36,6 +36,15 @@ enum Way {
     Normal,
 }
 
+// Checked runs with more rows than columns, and what they are asked.
+#[derive(Clone, Copy)]
+struct Case<'a> {
+    sheet: Sheet<'a>,
+    asked: Asked,
+    choice: Choice,
+    ghost more_rows: { sheet.size.columns < sheet.size.rows },
+}
+
 // The way of n rows by the choice; the exact one only where rooms of these lengths suffice.
 fn way_of(n: usize, choice: Choice, matrix: usize, parts: usize) -> Result<Way, TestError>
     requires { n ≤ max_rows }
@@ -60,21 +69,22 @@ fn clear(room: &mut [f64], m: usize)
 }
 
 // The exact way: the eigenvalues, which the columns decide, then what the statistic makes of them. Both rooms are cleared.
+// kept as two rooms: of a struct that holds both as &mut the clauses read rooms.exit.1.0.now where they say parts.new
 fn exact(
-    sheet: Sheet,
+    case: Case,
     inverse: Matrix,
-    asked: Asked,
     matrix: &mut [f64],
     parts: &mut [f64],
 ) -> Result<Said, TestError>
-    requires { (sheet.size.columns < sheet.size.rows) × (room_of sheet.size.rows ≤ length matrix.old) × (PartRoom parts.old) }
-    ensures value { said_in result ≡ by_spectrum (layout_from sheet.entry.run.now sheet.entry.size.rows sheet.entry.size.columns inverse).spectrum (layout_from sheet.entry.run.now sheet.entry.size.rows sheet.entry.size.columns inverse).kept asked }
-    ensures matrix_after { matrix.new ≡ cleared_of true (room_of sheet.entry.size.rows) matrix.old }
+    requires { (room_of case.sheet.size.rows ≤ length matrix.old) × (PartRoom parts.old) }
+    ensures value { said_in result ≡ by_spectrum (layout_from case.entry.sheet.run.now case.entry.sheet.size.rows case.entry.sheet.size.columns inverse).spectrum (layout_from case.entry.sheet.run.now case.entry.sheet.size.rows case.entry.sheet.size.columns inverse).kept case.entry.asked }
+    ensures matrix_after { matrix.new ≡ cleared_of true (room_of case.entry.sheet.size.rows) matrix.old }
     ensures parts_after { parts.new ≡ cleared_of true part_room parts.old }
 {
+    let sheet = case.sheet;
     let mut kept = [0.0f64; MAX_ROWS];
     let spectrum = eigen::ma_eigenvalues(sheet.run, sheet.size, inverse, matrix, &mut kept);
-    let said = verdict::by_spectrum(spectrum, &kept, asked, parts);
+    let said = verdict::by_spectrum(spectrum, &kept, case.asked, parts);
     clear(matrix, matrix_room(sheet.size.rows));
     clear(parts, imhof::PART_ROOM);
     said
@@ -82,47 +92,41 @@ fn exact(
 
 // What is said before any law is worked out: an answer, or that the law is due.
 fn said_of(
-    sheet: Sheet,
+    case: Case,
     inverse: Matrix,
-    asked: Asked,
-    choice: Choice,
     matrix: &mut [f64],
     parts: &mut [f64],
 ) -> Result<Said, TestError>
-    requires { sheet.size.columns < sheet.size.rows }
-    ensures value { said_in result ≡ said_by (way_of room_of sheet.entry.size.rows choice (length matrix.old) (length parts.old)) (layout_from sheet.entry.run.now sheet.entry.size.rows sheet.entry.size.columns inverse) asked }
-    ensures matrix_after { matrix.new ≡ cleared_of (is_exact (way_of room_of sheet.entry.size.rows choice (length matrix.old) (length parts.old))) (room_of sheet.entry.size.rows) matrix.old }
-    ensures parts_after { parts.new ≡ cleared_of (is_exact (way_of room_of sheet.entry.size.rows choice (length matrix.old) (length parts.old))) part_room parts.old }
+    ensures value { said_in result ≡ said_by (way_of room_of case.entry.sheet.size.rows case.entry.choice (length matrix.old) (length parts.old)) (layout_from case.entry.sheet.run.now case.entry.sheet.size.rows case.entry.sheet.size.columns inverse) case.entry.asked }
+    ensures matrix_after { matrix.new ≡ cleared_of (is_exact (way_of room_of case.entry.sheet.size.rows case.entry.choice (length matrix.old) (length parts.old))) (room_of case.entry.sheet.size.rows) matrix.old }
+    ensures parts_after { parts.new ≡ cleared_of (is_exact (way_of room_of case.entry.sheet.size.rows case.entry.choice (length matrix.old) (length parts.old))) part_room parts.old }
 {
-    match way_of(sheet.size.rows, choice, matrix.len(), parts.len())? {
+    match way_of(case.sheet.size.rows, case.choice, matrix.len(), parts.len())? {
         Way::Few => {
-            let outcome = accepted(asked, 1.0, Path::FewRows, direct(), no_law());
+            let outcome = accepted(case.asked, 1.0, Path::FewRows, direct(), no_law());
             Ok(Said::Answered(outcome))
         }
-        Way::Exact => exact(sheet, inverse, asked, matrix, parts),
-        Way::Normal => Ok(verdict::to_law(asked, direct())),
+        Way::Exact => exact(case, inverse, matrix, parts),
+        Way::Normal => Ok(verdict::to_law(case.asked, direct())),
     }
 }
 
 // A sheet whose runs are checked: what its columns decide, then what its statistic does. The law is worked out where it is due.
 fn test_design(
-    sheet: Sheet,
-    asked: Asked,
-    choice: Choice,
+    case: Case,
     matrix: &mut [f64],
     parts: &mut [f64],
 ) -> Result<Outcome, TestError>
-    requires { sheet.size.columns < sheet.size.rows }
-    ensures value { outcome_in result ≡ design_of room_of sheet.entry.run.now sheet.entry.size.rows sheet.entry.size.columns asked choice (length matrix.old) (length parts.old) }
-    ensures matrix_after { matrix.new ≡ cleared_of (design_touches room_of sheet.entry.run.now sheet.entry.size.rows sheet.entry.size.columns choice (length matrix.old) (length parts.old)) (room_of sheet.entry.size.rows) matrix.old }
-    ensures parts_after { parts.new ≡ cleared_of (design_touches room_of sheet.entry.run.now sheet.entry.size.rows sheet.entry.size.columns choice (length matrix.old) (length parts.old)) part_room parts.old }
+    ensures value { outcome_in result ≡ design_of room_of case.entry.sheet.run.now case.entry.sheet.size.rows case.entry.sheet.size.columns case.entry.asked case.entry.choice (length matrix.old) (length parts.old) }
+    ensures matrix_after { matrix.new ≡ cleared_of (design_touches room_of case.entry.sheet.run.now case.entry.sheet.size.rows case.entry.sheet.size.columns case.entry.choice (length matrix.old) (length parts.old)) (room_of case.entry.sheet.size.rows) matrix.old }
+    ensures parts_after { parts.new ≡ cleared_of (design_touches room_of case.entry.sheet.run.now case.entry.sheet.size.rows case.entry.sheet.size.columns case.entry.choice (length matrix.old) (length parts.old)) part_room parts.old }
 {
-    let inverse = layout::invert(sheet)?;
-    match said_of(sheet, inverse, asked, choice, matrix, parts)? {
+    let inverse = layout::invert(case.sheet)?;
+    match said_of(case, inverse, matrix, parts)? {
         Said::Answered(outcome) => Ok(outcome),
         Said::LawDue(left) => {
-            let law = layout::law_of(sheet, inverse)?;
-            Ok(verdict::by_law(law, asked, left))
+            let law = layout::law_of(case.sheet, inverse)?;
+            Ok(verdict::by_law(law, case.asked, left))
         }
     }
 }
@@ -150,7 +154,12 @@ fn test(
         alternative,
         rows: sheet.size.rows,
     };
-    test_design(sheet, asked, choice, matrix, parts)
+    let case = Case {
+        sheet,
+        asked,
+        choice,
+    };
+    test_design(case, matrix, parts)
 }
 
 // The test. `columns` is k columns of as many numbers as there are residuals, one after another. The rooms are lent for the exact path: n (n + 1) numbers

@@ -15,6 +15,7 @@ use outcome::refusals::{Stage, TestError};
 use outcome::{Asked, Leaving, Outcome, Path, accepted, fallen_back, no_law, worked_out};
 
 // What is said before any law is worked out: an answer, or that the law is due, with what the exact way leaves to it.
+// kept as an enum of its own: the test goes on from both, so neither is an error or an absence
 #[derive(Clone, Copy)]
 pub enum Said {
     Answered(Outcome),

@@ -186,6 +186,7 @@ pub fn wants_exact(choice: Choice, n: usize) -> bool
     }
 }
 
+// kept as a function: a Default of NormalLaw would say that a law with no spread is the usual one
 pub fn no_law() -> NormalLaw
     ensures { result ≡ no_law }
 {
@@ -196,6 +197,7 @@ pub fn no_law() -> NormalLaw
 }
 
 // Where the exact way was not gone.
+// kept as a function: the mark is true here, so that no Default derives it
 pub fn direct() -> Leaving
     ensures { result ≡ direct }
 {

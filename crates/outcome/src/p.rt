@@ -6,6 +6,7 @@ use super::Alternative;
 use elementary::{NormalLaw, lower_tail, upper_tail};
 use floats::signs::abs;
 
+// kept beside f64::min, which gives the other number where one is NaN: exact_p says this for every pattern
 fn min(x: f64, y: f64) -> f64
     ensures { result ≡ smaller x y }
 {

@@ -10,7 +10,7 @@ pub by_spectrum-said-requires : goal.by_spectrum-said-requires
 by_spectrum-said-requires c = let args = c.args in
     let pre = c.requires in
     let ma-eigenvalues = c.ma_eigenvalues-spectrum in
-    (counted args.sheet.run.now args.inverse args.sheet.size.rows args.sheet.size.columns _ _ ma-eigenvalues.ensures.value (omega (arith, ma-eigenvalues.auto.kept)) args.sheet.design.0, pre.2)
+    (counted args.case.sheet.run.now args.inverse args.case.sheet.size.rows args.case.sheet.size.columns _ _ ma-eigenvalues.ensures.value (omega (arith, ma-eigenvalues.auto.kept)) args.case.sheet.design.0, pre.1)
 
 pub clear-requires : goal.clear-requires
 clear-requires c = omega (arith, c.matrix_room.ensures)
@@ -21,4 +21,4 @@ returns c = let args = c.args in
     let by-spectrum = c.by_spectrum-said in
     let matrix-room = c.matrix_room in
     let clear = c.clear in
-    record { value = by-spectrum.ensures.value ∙ by_front args.sheet.run.now args.inverse args.sheet.size.rows args.sheet.size.columns args.asked _ _ _ ma-eigenvalues.ensures.value ma-eigenvalues.ensures.kept_after; matrix_after = wiped (room_of args.sheet.size.rows) args.matrix.now ma-eigenvalues.new.room _ (rw matrix-room.ensures at clear.ensures) (beyond args.sheet.run.now args.inverse args.sheet.size.rows args.sheet.size.columns args.matrix.now _ ma-eigenvalues.ensures.room_after); parts_after = wiped part_room args.parts.now by-spectrum.new.parts _ c.clear-2.ensures by-spectrum.ensures.parts_unchanged }
+    record { value = by-spectrum.ensures.value ∙ by_front args.case.sheet.run.now args.inverse args.case.sheet.size.rows args.case.sheet.size.columns args.case.asked _ _ _ ma-eigenvalues.ensures.value ma-eigenvalues.ensures.kept_after; matrix_after = wiped (room_of args.case.sheet.size.rows) args.matrix.now ma-eigenvalues.new.room _ (rw matrix-room.ensures at clear.ensures) (beyond args.case.sheet.run.now args.inverse args.case.sheet.size.rows args.case.sheet.size.columns args.matrix.now _ ma-eigenvalues.ensures.room_after); parts_after = wiped part_room args.parts.now by-spectrum.new.parts _ c.clear-2.ensures by-spectrum.ensures.parts_unchanged }

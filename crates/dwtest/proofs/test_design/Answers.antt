@@ -14,52 +14,52 @@ pub returns-in_err-inverse-clause-value : goal.returns-in_err-inverse-clause-val
 returns-in_err-inverse-clause-value c = let a = c.args in
     let why = c.in_err-inverse.field-0.0 in
     let found = c.in_err-inverse.ensures.refusal in
-    let s = design-refused room_of a.sheet.run.now a.sheet.size.rows a.sheet.size.columns a.asked a.choice (length a.matrix.now) (length a.parts.now) (ap passes (sym found) ∙ reason-refuses why) in
+    let s = design-refused room_of a.case.sheet.run.now a.case.sheet.size.rows a.case.sheet.size.columns a.case.asked a.case.choice (length a.matrix.now) (length a.parts.now) (ap passes (sym found) ∙ reason-refuses why) in
     outcome-at c.from_residual.result why c.from_residual.ensures.1 ∙ ap refused_of found ∙ sym s.0
 
 pub returns-in_err-outcome-clause-value : goal.returns-in_err-outcome-clause-value
 returns-in_err-outcome-clause-value c = let a = c.args in
     let why = c.in_err-outcome.field-0.0 in
-    let s = design-said room_of a.sheet.run.now a.sheet.size.rows a.sheet.size.columns a.asked a.choice (length a.matrix.now) (length a.parts.now) c.in_ok-inverse.inverse (Answered (refused_of (refusal_of why))) c.in_ok-inverse.ensures.refusal c.in_ok-inverse.ensures.inverse c.in_err-outcome.ensures.value in
+    let s = design-said room_of a.case.sheet.run.now a.case.sheet.size.rows a.case.sheet.size.columns a.case.asked a.case.choice (length a.matrix.now) (length a.parts.now) c.in_ok-inverse.inverse (Answered (refused_of (refusal_of why))) c.in_ok-inverse.ensures.refusal c.in_ok-inverse.ensures.inverse c.in_err-outcome.ensures.value in
     outcome-at c.from_residual-in_err-outcome.result why c.from_residual-in_err-outcome.ensures.1 ∙ sym s.0
 
 pub returns-in_err-outcome-clause-parts_after : goal.returns-in_err-outcome-clause-parts_after
 returns-in_err-outcome-clause-parts_after c = let a = c.args in
     let why = c.in_err-outcome.field-0.0 in
-    let s = design-said room_of a.sheet.run.now a.sheet.size.rows a.sheet.size.columns a.asked a.choice (length a.matrix.now) (length a.parts.now) c.in_ok-inverse.inverse (Answered (refused_of (refusal_of why))) c.in_ok-inverse.ensures.refusal c.in_ok-inverse.ensures.inverse c.in_err-outcome.ensures.value in
+    let s = design-said room_of a.case.sheet.run.now a.case.sheet.size.rows a.case.sheet.size.columns a.case.asked a.case.choice (length a.matrix.now) (length a.parts.now) c.in_ok-inverse.inverse (Answered (refused_of (refusal_of why))) c.in_ok-inverse.ensures.refusal c.in_ok-inverse.ensures.inverse c.in_err-outcome.ensures.value in
     c.in_err-outcome.ensures.parts_after ∙ ap (λ b. cleared_of b part_room a.parts.now) (sym s.1)
 
 pub returns-in_err-law-in-LawDue-clause-value : goal.returns-in_err-law-in-LawDue-clause-value
 returns-in_err-law-in-LawDue-clause-value c = let a = c.args in
     let said = c.in-LawDue in
-    let found = c.in_err-law-in-LawDue.ensures ∙ ap (λ i. (layout_from a.sheet.run.now a.sheet.size.rows a.sheet.size.columns i).law) c.in_ok-inverse.ensures.inverse in
-    let s = design-said room_of a.sheet.run.now a.sheet.size.rows a.sheet.size.columns a.asked a.choice (length a.matrix.now) (length a.parts.now) c.in_ok-inverse.inverse (LawDue said.left) c.in_ok-inverse.ensures.refusal c.in_ok-inverse.ensures.inverse (sym said.is ∙ c.in_ok-outcome.ensures.value) in
-    outcome-at c.from_residual-in_err-law-in-LawDue.result (law_error c.in_err-law-in-LawDue.field-0.0) c.from_residual-in_err-law-in-LawDue.ensures.1 ∙ ap (λ l. by_law l a.asked said.left) found ∙ sym s.0
+    let found = c.in_err-law-in-LawDue.ensures ∙ ap (λ i. (layout_from a.case.sheet.run.now a.case.sheet.size.rows a.case.sheet.size.columns i).law) c.in_ok-inverse.ensures.inverse in
+    let s = design-said room_of a.case.sheet.run.now a.case.sheet.size.rows a.case.sheet.size.columns a.case.asked a.case.choice (length a.matrix.now) (length a.parts.now) c.in_ok-inverse.inverse (LawDue said.left) c.in_ok-inverse.ensures.refusal c.in_ok-inverse.ensures.inverse (sym said.is ∙ c.in_ok-outcome.ensures.value) in
+    outcome-at c.from_residual-in_err-law-in-LawDue.result (law_error c.in_err-law-in-LawDue.field-0.0) c.from_residual-in_err-law-in-LawDue.ensures.1 ∙ ap (λ l. by_law l a.case.asked said.left) found ∙ sym s.0
 
 pub returns-in_err-law-in-LawDue-clause-parts_after : goal.returns-in_err-law-in-LawDue-clause-parts_after
 returns-in_err-law-in-LawDue-clause-parts_after c = let a = c.args in
-    let s = design-said room_of a.sheet.run.now a.sheet.size.rows a.sheet.size.columns a.asked a.choice (length a.matrix.now) (length a.parts.now) c.in_ok-inverse.inverse c.in_ok-outcome.field-0 c.in_ok-inverse.ensures.refusal c.in_ok-inverse.ensures.inverse c.in_ok-outcome.ensures.value in
+    let s = design-said room_of a.case.sheet.run.now a.case.sheet.size.rows a.case.sheet.size.columns a.case.asked a.case.choice (length a.matrix.now) (length a.parts.now) c.in_ok-inverse.inverse c.in_ok-outcome.field-0 c.in_ok-inverse.ensures.refusal c.in_ok-inverse.ensures.inverse c.in_ok-outcome.ensures.value in
     c.in_ok-outcome.ensures.parts_after ∙ ap (λ b. cleared_of b part_room a.parts.now) (sym s.1)
 
 pub returns-in-Answered-clause-value : goal.returns-in-Answered-clause-value
 returns-in-Answered-clause-value c = let a = c.args in
     let said = c.in-Answered in
-    let s = design-said room_of a.sheet.run.now a.sheet.size.rows a.sheet.size.columns a.asked a.choice (length a.matrix.now) (length a.parts.now) c.in_ok-inverse.inverse (Answered said.outcome) c.in_ok-inverse.ensures.refusal c.in_ok-inverse.ensures.inverse (sym said.is ∙ c.in_ok-outcome.ensures.value) in
+    let s = design-said room_of a.case.sheet.run.now a.case.sheet.size.rows a.case.sheet.size.columns a.case.asked a.case.choice (length a.matrix.now) (length a.parts.now) c.in_ok-inverse.inverse (Answered said.outcome) c.in_ok-inverse.ensures.refusal c.in_ok-inverse.ensures.inverse (sym said.is ∙ c.in_ok-outcome.ensures.value) in
     sym s.0
 
 pub returns-in-Answered-clause-parts_after : goal.returns-in-Answered-clause-parts_after
 returns-in-Answered-clause-parts_after c = let a = c.args in
-    let s = design-said room_of a.sheet.run.now a.sheet.size.rows a.sheet.size.columns a.asked a.choice (length a.matrix.now) (length a.parts.now) c.in_ok-inverse.inverse c.in_ok-outcome.field-0 c.in_ok-inverse.ensures.refusal c.in_ok-inverse.ensures.inverse c.in_ok-outcome.ensures.value in
+    let s = design-said room_of a.case.sheet.run.now a.case.sheet.size.rows a.case.sheet.size.columns a.case.asked a.case.choice (length a.matrix.now) (length a.parts.now) c.in_ok-inverse.inverse c.in_ok-outcome.field-0 c.in_ok-inverse.ensures.refusal c.in_ok-inverse.ensures.inverse c.in_ok-outcome.ensures.value in
     c.in_ok-outcome.ensures.parts_after ∙ ap (λ b. cleared_of b part_room a.parts.now) (sym s.1)
 
 pub returns-in_ok-law-in-LawDue-clause-value : goal.returns-in_ok-law-in-LawDue-clause-value
 returns-in_ok-law-in-LawDue-clause-value c = let a = c.args in
     let said = c.in-LawDue in
-    let found = c.in_ok-law-in-LawDue.ensures ∙ ap (λ i. (layout_from a.sheet.run.now a.sheet.size.rows a.sheet.size.columns i).law) c.in_ok-inverse.ensures.inverse in
-    let s = design-said room_of a.sheet.run.now a.sheet.size.rows a.sheet.size.columns a.asked a.choice (length a.matrix.now) (length a.parts.now) c.in_ok-inverse.inverse (LawDue said.left) c.in_ok-inverse.ensures.refusal c.in_ok-inverse.ensures.inverse (sym said.is ∙ c.in_ok-outcome.ensures.value) in
-    c.by_law.ensures ∙ ap (λ l. by_law l a.asked said.left) found ∙ sym s.0
+    let found = c.in_ok-law-in-LawDue.ensures ∙ ap (λ i. (layout_from a.case.sheet.run.now a.case.sheet.size.rows a.case.sheet.size.columns i).law) c.in_ok-inverse.ensures.inverse in
+    let s = design-said room_of a.case.sheet.run.now a.case.sheet.size.rows a.case.sheet.size.columns a.case.asked a.case.choice (length a.matrix.now) (length a.parts.now) c.in_ok-inverse.inverse (LawDue said.left) c.in_ok-inverse.ensures.refusal c.in_ok-inverse.ensures.inverse (sym said.is ∙ c.in_ok-outcome.ensures.value) in
+    c.by_law.ensures ∙ ap (λ l. by_law l a.case.asked said.left) found ∙ sym s.0
 
 pub returns-in_ok-law-in-LawDue-clause-parts_after : goal.returns-in_ok-law-in-LawDue-clause-parts_after
 returns-in_ok-law-in-LawDue-clause-parts_after c = let a = c.args in
-    let s = design-said room_of a.sheet.run.now a.sheet.size.rows a.sheet.size.columns a.asked a.choice (length a.matrix.now) (length a.parts.now) c.in_ok-inverse.inverse c.in_ok-outcome.field-0 c.in_ok-inverse.ensures.refusal c.in_ok-inverse.ensures.inverse c.in_ok-outcome.ensures.value in
+    let s = design-said room_of a.case.sheet.run.now a.case.sheet.size.rows a.case.sheet.size.columns a.case.asked a.case.choice (length a.matrix.now) (length a.parts.now) c.in_ok-inverse.inverse c.in_ok-outcome.field-0 c.in_ok-inverse.ensures.refusal c.in_ok-inverse.ensures.inverse c.in_ok-outcome.ensures.value in
     c.in_ok-outcome.ensures.parts_after ∙ ap (λ b. cleared_of b part_room a.parts.now) (sym s.1)
