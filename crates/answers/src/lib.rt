@@ -56,7 +56,8 @@ fn put_lines(file: &[u8], out: &mut [u8]) -> usize
     at
 }
 
-// Puts the answer to a file at the front of `out`, and gives its length; 0, and `out` as it was, where `out` is shorter than MOST_BYTES.
+// Puts the answer to a file at the front of `out`, and gives its length; 0, and `out` as it was, where `out` is shorter than MOST_BYTES
+// (kept: `front_length` promises it).
 pub fn answer(file: &[u8], out: &mut [u8]) -> usize
     ensures value { result ≡ front_length most_bytes (answer_to file.now) out.old }
     ensures out_after { out.new ≡ fronted most_bytes (answer_to file.now) out.old }

@@ -16,6 +16,7 @@ use std::io::Read;
 fn read_input(input: &mut impl Read, file: &mut [u8]) -> io::Result<usize>
     ensures { ReadsAtMost result file.new }
 {
+    // kept as a loop: without a heap no method of Read tells how many bytes came before the end
     let mut size = 0;
     while size < file.len() {
         let more = input.read(&mut file[size..])?;

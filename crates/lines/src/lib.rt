@@ -50,6 +50,7 @@ pub fn fields_of(i: usize, o: Outcome) -> [u64; FIELDS]
 }
 
 // Puts the line of sheet `i` at the front of `out`, and gives its length; 0, and `out` as it was, where `out` is shorter than the longest line.
+// 0 is kept for no room, here and below: `front_length` promises it.
 pub fn write_line(i: usize, o: Outcome, out: &mut [u8]) -> usize
     ensures value { result ≡ front_length longest (line_of (fields_of i o)) out.old }
     ensures out_after { out.new ≡ fronted longest (line_of (fields_of i o)) out.old }

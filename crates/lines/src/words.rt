@@ -36,6 +36,7 @@ fn digit(d: u64) -> u8
 fn width(n: u64) -> usize
     ensures { (result ≡ width_of n) × (result ≤ 20) }
 {
+    // kept as a while loop: std has no ilog10
     let mut k: usize = 1;
     let mut rest = n;
     while rest >= 10 {
@@ -51,6 +52,7 @@ fn put_digits(out: &mut [u8], n: u64, base: u64)
     ensures { out.new ≡ digits base (length out.old) n }
 {
     let mut rest = n;
+    // kept as an index loop: of the items of iter_mut().rev() a proof knows none by its place
     for t in (0..out.len()).rev() {
         out[t] = digit(rest % base);
         rest /= base;
@@ -108,6 +110,7 @@ impl Line<'_> {
     pub fn lacks_room(self, room: usize) -> bool
         ensures { result ≡ ltb room (longest_of (kinds_of (words_at self.entry.values.now self.entry.patterns.now))) }
     {
+        // kept as an index loop: of a word only its place is asked
         let mut left = room;
         for t in 0..self.values.len() {
             let Some(rest) = left.checked_sub(self.kind(t).widest()) else {

@@ -19,7 +19,8 @@ const COUNT_BYTES: usize = 4;
 const ENTRY_BYTES: usize = 16;
 
 // Where one sheet's body begins, its size, its two codes (alternative 0 greater, 1 less, 2 two-sided; choice 0 default, 1 exact,
-// 2 normal) and its positions byte: with 1 the body opens with the rows' print positions. The bytes stand here as they are in the file.
+// 2 normal) and its positions byte: with 1 the body opens with the rows' print positions. The bytes stand here as they are in the file, wrong ones too:
+// they are kept as numbers, since `Codes` is refused by what stands in them.
 #[derive(Clone, Copy)]
 pub struct Entry {
     pub offset: u32,
@@ -179,6 +180,7 @@ fn check_entries(file: &[u8], count: usize) -> Result<usize, FileRefusal>
     ensures { result ≡ check_of (first_met file.now (refusals_from 0 count)) }
 {
     let mut due = COUNT_BYTES + ENTRY_BYTES * count;
+    // kept as an index loop: an entry is read by its number, and its refusal names the number
     for i in 0..count {
         let e = entry_at(file, i);
         entry_fault(file, i, e, due)?;
@@ -232,6 +234,7 @@ fn body_number(file: &[u8], e: Entry, t: usize) -> f64
     float_at(file, e.numbers_start() + 8 * t)
 }
 
+// Kept as a count with 0 for none: `read_count` promises it.
 // Puts `count` numbers of a body, from number `first` on, at the front of `run`, where the rest stays, and gives `count`; where the body is not all in
 // the file or the run is shorter, 0, and the run stays.
 fn read_numbers(file: &[u8], e: Entry, first: usize, count: usize, run: &mut [f64]) -> usize

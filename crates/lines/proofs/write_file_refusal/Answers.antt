@@ -31,10 +31,6 @@ put-requires c = let l = c.args.out.now in
     let same = long l c.copy_from_slice.new.self c.copy_from_slice.ensures.after (omega arith) in
     rw (part-length 5 (c.copy_from_slice.new.self ++ drop 5 l), same) (omega arith)
 
-pub overflow_add-result : goal.overflow_add-result
-unfolding table among
-overflow_add-result c = omega (arith, c.put.ensures.0, line-length (number c.number.result ∷ number c.index.result ∷ []))
-
 pub returns : goal.returns
 unfolding file_line_of text table among
 returns c = let l = c.args.out.now in
@@ -46,3 +42,7 @@ returns c = let l = c.args.out.now in
     let put = rw c.put.ensures.1 (part-front 5 line (name ++ drop 5 l) room) ∙ ap (put_at 5 line) (named l name c.copy_from_slice.ensures.after) ∙ put-more 0 (text "file ") line l (omega arith) in
     let f = front-put longest (file_line_of c.args.refusal) l c.if-out-lt-LONGEST.false (all ∙ ap length same) (put ∙ ap (λ w. put_at 0 w l) same) in
     record { value = f.0; out_after = f.1.0; counts = f.1.1 }
+
+pub overflow_add-result : goal.overflow_add-result
+unfolding table among
+overflow_add-result c = omega (arith, c.put.ensures.0, line-length (number c.number.result ∷ number c.index.result ∷ []))

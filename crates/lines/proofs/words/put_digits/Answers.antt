@@ -1,5 +1,5 @@
 use Prim.Native.Nat.{ℕ, ◌^◌, ◌-◌, ◌+◌, ◌<◌, ◌≤◌}
-use native.Mathlib.Nat.{mod-lt, div-one, sub_self, pow-zero, pow-suc, div-div-eq-div-mul}
+use native.Mathlib.Nat.{div-one, sub_self, pow-zero, pow-suc, div-div-eq-div-mul}
 use native.Mathlib.Numerals.{add-one}
 use native.Mathlib.Omega.{arith}
 use mathlib.Core.Path.{◌≡◌, sym, ap, ◌∙◌}
@@ -19,19 +19,15 @@ pub loop-t-init : goal.loop-t-init
 unfolding digits
 loop-t-init c = rw (sub_self (length c.args.out.now)) (rw pow-zero (sym (div-one c.args.n)), sym (put-none _ _))
 
-pub digit-requires : goal.digit-requires
-digit-requires c = omega (arith, mod-lt c.loop-t.rest c.requires.0)
-
 pub loop-t-preserved : goal.loop-t-preserved
 unfolding digits
 loop-t-preserved c = let args = c.args in
     let t = c.loop-t.t in
     let n = length args.out.now in
     let p : n - (t - 1) ≡ n - t + 1 = omega arith in
-    rw (p, add-one (n - t)) (
-      rw (c.loop-t.invariant.0, pow-suc) (div-div-eq-div-mul args.n (args.base ^ (n - t)) args.base),
-      rw (c.loop-t.invariant.1, c.digit.ensures, c.loop-t.invariant.0) (before t _ _ args.out.now (omega arith) (omega arith)),
-    )
+    rw (p, add-one (n - t))
+    (rw (c.loop-t.invariant.0, pow-suc) (div-div-eq-div-mul args.n (args.base ^ (n - t)) args.base),
+    rw (c.loop-t.invariant.1, c.digit.ensures, c.loop-t.invariant.0) (before t _ _ args.out.now (omega arith) (omega arith)))
 
 pub returns : goal.returns
 returns c = let n = length c.args.out.now in

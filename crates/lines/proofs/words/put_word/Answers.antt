@@ -3,12 +3,6 @@ use native.Mathlib.Omega.{arith}
 use Rattle.lines.proofs.DigitLaws.{length-word}
 use Rattle.lines.proofs.words.put_word.Goals as goal
 
-pub put_number-requires : goal.put_number-requires
-put_number-requires c = let room = rw c.in-Decimal.is at c.requires in omega (arith, room)
-
-pub put_number-requires-in-Hex : goal.put_number-requires-in-Hex
-put_number-requires-in-Hex c = let room = rw c.in-Hex.is at c.requires in omega (arith, room)
-
 pub returns-in-Decimal : goal.returns-in-Decimal
 returns-in-Decimal c = rw (c.in-Decimal.is, ← c.width.ensures.0) (omega (arith, length-word 10 c.width.result c.args.n c.args.after), c.put_number.ensures.1)
 

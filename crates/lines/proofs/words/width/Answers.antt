@@ -4,12 +4,6 @@ use Prim.Native.Nat.{◌<◌, ◌-◌, ◌+◌}
 use native.Mathlib.Omega.{arith}
 use Rattle.lines.proofs.words.width.Goals as goal
 
-pub loop-rest-init : goal.loop-rest-init
-loop-rest-init c = (omega arith, omega arith, omega arith)
-
-pub loop-rest-smaller : goal.loop-rest-smaller
-loop-rest-smaller c = omega (arith, second-digit (20 - c.loop-rest.k) c.loop-rest-test.true c.loop-rest.invariant.1)
-
 pub loop-rest-preserved : goal.loop-rest-preserved
 loop-rest-preserved c = let m : c.loop-rest.k < 20 = omega (arith, second-digit (20 - c.loop-rest.k) c.loop-rest-test.true c.loop-rest.invariant.1) in
     (omega arith, tenth-below _ (rw (sub-step m) at c.loop-rest.invariant.1), omega (arith, c.loop-rest.invariant.2, rw (sub-step m, width-more (20 - (c.loop-rest.k + 1)) c.loop-rest-test.true) at c.loop-rest.invariant.2))

@@ -1,5 +1,5 @@
 -- Each test is a part of the condition. Assumes nothing.
-use borrow.Author.Tests.{tests, lt-ltb, le-ltb}
+use borrow.Author.Tests.{lt-ltb, le-ltb}
 use Rattle.std.proofs.Common.{rules, inl, inr}
 use Rattle.sheet.specs.Reading.{meets}
 use Rattle.sheet.proofs.file.codes_wrong.Goals as goal

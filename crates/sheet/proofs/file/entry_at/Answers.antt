@@ -6,13 +6,13 @@ use Rattle.sheet.specs.Contents.{entry_of, entry_place}
 use Rattle.sheet.proofs.file.entry_at.Goals as goal
 
 pub overflow_cast-result : goal.overflow_cast-result
-overflow_cast-result c = omega (arith, bytes_below c.args.file.now (λ i. (c.shared_slice_known-1.given i).fits) 4 (entry_place c.args.i))
+overflow_cast-result c = omega (arith, bytes_below c.args.file.now (λ i. (c.type_inv.file i).fits) 4 (entry_place c.args.i))
 
 pub overflow_cast-result-2 : goal.overflow_cast-result-2
-overflow_cast-result-2 c = omega (arith, bytes_below c.args.file.now (λ i. (c.shared_slice_known-1.given i).fits) 2 (entry_place c.args.i + 4))
+overflow_cast-result-2 c = omega (arith, bytes_below c.args.file.now (λ i. (c.type_inv.file i).fits) 2 (entry_place c.args.i + 4))
 
 pub overflow_cast-result-3 : goal.overflow_cast-result-3
-overflow_cast-result-3 c = omega (arith, bytes_below c.args.file.now (λ i. (c.shared_slice_known-1.given i).fits) 2 (entry_place c.args.i + 6))
+overflow_cast-result-3 c = omega (arith, bytes_below c.args.file.now (λ i. (c.type_inv.file i).fits) 2 (entry_place c.args.i + 6))
 
 pub returns : goal.returns
 unfolding entry_of

@@ -23,9 +23,6 @@ not-rising-is : (file : List ℕ) (i : ℕ) → meets file (NotRising i) ≡ not
 unfolding meets
 not-rising-is file i = refl
 
-pub returns-then-codes_wrong : goal.returns-then-codes_wrong
-returns-then-codes_wrong c = rw (← c.codes_wrong.ensures, c.if-codes_wrong.true)
-
 pub returns-then-e-due : goal.returns-then-e-due
 returns-then-e-due c = rw (← c.codes_wrong.ensures, c.if-codes_wrong.false, offset-is _ _, ← c.requires.1, ← c.requires.2, ne_eqb _ _ c.if-e-due.true)
 

@@ -12,6 +12,3 @@ returns-then-t-file c = sym (past_end c.args.file.now 8 _ (omega arith))
 
 pub returns-then-left-lt8 : goal.returns-then-left-lt8
 returns-then-left-lt8 c = rw (← c.body_start-start.ensures) (c.little_endian.ensures ∙ sym (cut_short c.args.file.now _ 8 _ (omega arith) (omega arith)))
-
-pub returns : goal.returns
-returns c = rw (← c.body_start-start.ensures) c.little_endian-2.ensures

@@ -1,8 +1,7 @@
 use mathlib.Core.List.{◌++◌, append-nil}
-use mathlib.Core.Path.{◌≡◌, ap, sym, ◌∙◌}
+use mathlib.Core.Path.{◌≡◌}
 use Prim.Native.Nat.{◌≤◌, ◌+◌}
 use native.Mathlib.Omega.{arith}
-use native.Mathlib.Nat.{le_antisymm}
 use borrow.Author.Tests.{le-leb}
 use lib.Ieee.{nan}
 use Rattle.std.proofs.Common.{rules}

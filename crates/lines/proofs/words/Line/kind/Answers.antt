@@ -1,5 +1,4 @@
 -- `contains` finds it where it is among the places. Assumes nothing.
-use mathlib.Core.Path.{sym, ◌∙◌}
 use Rattle.lines.proofs.PutLaws.{among-any}
 use Rattle.lines.proofs.words.Line.kind.Goals as goal
 

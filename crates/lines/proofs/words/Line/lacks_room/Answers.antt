@@ -1,14 +1,11 @@
 use Prim.Native.Nat.{◌≤◌, ◌<◌}
 use native.Mathlib.Omega.{arith}
-use mathlib.Core.Path.{refl, sym, ap}
+use mathlib.Core.Path.{sym, ap}
 use borrow.Author.Tests.{lt-ltb, le-ltb}
 use Rattle.std.proofs.Common.{rules}
 use Rattle.lines.specs.Lines.{longest_of, kinds_of, words_at}
 use Rattle.lines.proofs.LineLaws.{room_next, words-end}
 use Rattle.lines.proofs.words.Line.lacks_room.Goals as goal
-
-pub loop-t-init : goal.loop-t-init
-loop-t-init c = refl
 
 pub returns-in_default : goal.returns-in_default
 returns-in_default c = let line = c.args.self in

@@ -1,17 +1,11 @@
 use Prim.Native.Nat.{◌+◌}
 use native.Mathlib.Omega.{arith}
-use mathlib.Core.Path.{refl, sym, ap, ◌∙◌}
+use mathlib.Core.Path.{sym, ap, ◌∙◌}
 use lib.ListN.{length, get_or, drop}
 use Rattle.lines.specs.Lines.{behind, words_at}
 use Rattle.lines.proofs.PutLaws.{part-length, part-front}
 use Rattle.lines.proofs.LineLaws.{rest_more, rest-none, room_next, word-room, words-next, words-end, left-next}
 use Rattle.lines.proofs.words.Line.put.Goals as goal
-
-pub loop-t-init : goal.loop-t-init
-loop-t-init c = record { room = omega arith; ends = omega arith; gives = refl }
-
-pub slice_bounds-put_word-count : goal.slice_bounds-put_word-count
-slice_bounds-put_word-count c = omega (arith, c.loop-t.invariant.room)
 
 pub put_word-at-requires : goal.put_word-at-requires
 put_word-at-requires c = rw (part-length c.loop-t.at c.loop-t.out, c.kind.ensures) (omega (arith, c.loop-t.invariant.room, room_next c.args.self.values.now c.args.self.patterns.now c.loop-t.t c.loop-t-test.true))
