@@ -161,7 +161,7 @@ pub fn lower_tail(law: NormalLaw, x: f64) -> f64
     tail_beyond(-((x - law.mean) / sqrt(law.variance)))
 }
 
-// The chance that the law gives a number beyond x. The same holds.
+// The chance that the law gives a number beyond x. The same holds. Kept beside lower_tail, and both no methods: docs name the two.
 #[tactic(auto, unfolding(crate::specs::Tails::upper_tail))]
 pub fn upper_tail(law: NormalLaw, x: f64) -> f64
     ensures { result ≡ upper_tail law x }

@@ -3,6 +3,7 @@ ghost use Rattle.std.specs.Prelude.{◌≡◌};
 ghost use Rattle.elementary.specs.Points.{points};
 
 // 128 points from 0 up; from place 128 on the angles whose tangents they are; from place 256 on ln(1 + q), q being the point's square, rounded.
+// Kept as one run: the promises of atan_by and ln_1p_by, and length-points, speak of 384 numbers.
 pub static POINTS: [f64; 384] = [
     0.0, // 0000000000000000
     0.0, // 0000000000000000

@@ -7,9 +7,8 @@ ghost use Rattle.std.specs.Prelude.{◌+◌, ◌*◌, ◌^◌, ◌<◌, ◌≤�
 
 use elementary::NormalLaw;
 use floats::bits::{bits_of, of_bits};
-use std::fmt;
-use std::io;
 use std::io::Read;
+use std::{fmt, io};
 
 // No more of the input is read.
 const MOST_BYTES: u64 = 65_536;
@@ -111,7 +110,10 @@ impl fmt::Display for Vector {
             greatest,
         } = *self;
         let got = bits_of(got);
-        write!(f, "{function} {x:016x} is {got:016x}, not {least:016x} to {greatest:016x}")
+        write!(
+            f,
+            "{function} {x:016x} is {got:016x}, not {least:016x} to {greatest:016x}"
+        )
     }
 }
 

@@ -6,9 +6,8 @@
 ghost use Rattle.std.specs.Prelude.{◌*◌, ◌≤◌, length};
 
 use floats::bits::{bits_of, of_bits};
-use std::fmt;
-use std::io;
 use std::io::Read;
+use std::{fmt, io};
 
 // No more of the input is read.
 const MOST_BYTES: u64 = 65_536;
@@ -50,7 +49,10 @@ impl fmt::Display for Vector {
             got,
             want,
         } = *self;
-        write!(f, "{function} {x:016x} {y:016x} is {got:016x}, not {want:016x}")
+        write!(
+            f,
+            "{function} {x:016x} {y:016x} is {got:016x}, not {want:016x}"
+        )
     }
 }
 
@@ -78,11 +80,7 @@ fn pair(words: &[Word; 3]) -> Vector {
 }
 
 // How many of the vectors are right. Each is `read` from its words.
-fn count_right<T, F: Fn(&T) -> Vector>(
-    rt: &impl Print,
-    vectors: &[T],
-    read: F,
-) -> io::Result<usize>
+fn count_right<T, F: Fn(&T) -> Vector>(rt: &impl Print, vectors: &[T], read: F) -> io::Result<usize>
     requires { F.IsAlwaysCallable read }
 {
     let mut right: usize = 0;
