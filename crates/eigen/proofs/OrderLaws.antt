@@ -7,7 +7,7 @@ use native.Mathlib.Numerals.{add-one}
 use native.Mathlib.Omega.{arith}
 use mathlib.Core.List.{List, [], ◌∷◌, ◌++◌, append-nil}
 use lib.ListN.{length, take, drop, set}
-use lib.Seq.{slice, slice-cons, slice_empty, take-suc, take-suc-set, drop-set-lt, take-set-lt, append_snoc, set_split, drop-cons, set_at, take_at, get_or_at}
+use lib.Seq.{take-suc, append_snoc, drop-cons, set_at, take_at, get_or_at}
 use lib.Ieee.{Float, nan, lt}
 use Rattle.std.specs.Prelude.{Option, Some, None, position, nat_lt}
 use Rattle.std.specs.List.{position_or_len}

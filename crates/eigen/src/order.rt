@@ -9,7 +9,9 @@ use floats::signs::comes_before;
 fn place(d: &[f64], x: f64) -> usize
     ensures { (result ≤ length d.now) × (insert x d.now ≡ take result d.now ++ (x ∷ drop result d.now)) }
 {
-    d.iter().position(|y| comes_before(*y, x)).unwrap_or(d.len())
+    d.iter()
+        .position(|y| comes_before(*y, x))
+        .unwrap_or(d.len())
 }
 
 // d[i] goes into its place among the i numbers before it, which fall; those behind it move on.

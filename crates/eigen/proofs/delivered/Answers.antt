@@ -1,6 +1,6 @@
 use native.Mathlib.Omega.{arith}
 use mathlib.Core.Path.{◌≡◌, refl, sym, ap, ◌∙◌}
-use lib.ListN.{length, length-append, length-drop}
+use lib.ListN.{length, length-append}
 use Rattle.floats.specs.Tables.{triangle}
 use Rattle.floats.specs.Matrix.{whole}
 use Rattle.floats.specs.Search.{first_bad}

@@ -1,6 +1,6 @@
 use Rattle.floats.proofs.HalfLaws.{entry_whole, half-low, triangle-apart}
 use native.Mathlib.Omega.{arith}
-use mathlib.Core.Path.{sym, ◌∙◌}
+use mathlib.Core.Path.{◌∙◌}
 use Rattle.tridiagonal.proofs.diagonal.Goals as goal
 
 pub offset_bounds-a-place : goal.offset_bounds-a-place

@@ -8,9 +8,7 @@ use Rattle.eigen.specs.Kept.{large, kept_above}
 use Rattle.eigen.proofs.OrderLaws.{large-kept, large-left, store-next}
 use Prim.Native.Nat.{ℕ, ◌+◌, ◌≤◌, ◌<◌}
 use native.Mathlib.Omega.{arith}
-use native.Mathlib.Nat.{le_antisymm}
 use mathlib.Core.Path.{◌≡◌, refl, ◌∙◌}
-use borrow.Author.Rules.{rules}
 use Rattle.eigen.proofs.order.keep.Goals as goal
 use Rattle.eigen.proofs.order.keep.Goals.{then-x, else-x}
 

@@ -1,4 +1,4 @@
-use lib.ListN.{take, drop, length-take}
+use lib.ListN.{drop, length-take}
 use Prim.Native.Nat.{◌+◌, ◌≤◌}
 use native.Mathlib.Omega.{arith}
 use mathlib.Core.List.{◌++◌}

@@ -1,6 +1,6 @@
 use mathlib.Core.Bool.{Bool, true, false}
 use lib.Ieee.{Float, le}
-use Rattle.std.specs.Prelude.{Some, None}
+use Rattle.std.specs.Prelude.{None}
 use Rattle.floats.specs.Words.{◌⊕◌, ◌⊗◌, ◌‼◌}
 use Rattle.floats.specs.Signs.{abs_of}
 use Rattle.floats.specs.Search.{first_where}

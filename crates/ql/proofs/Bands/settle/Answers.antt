@@ -4,7 +4,7 @@ use borrow.Author.Tests.{eq-eqb, ne_eqb}
 use Rattle.floats.specs.Count.{one_sweep}
 use Rattle.floats.specs.declared.tally.Tally.{Tally}
 use Rattle.ql.specs.Sweep.{block_end, sweep_of}
-use Rattle.ql.specs.Ql.{most_sweeps, Worked, settled}
+use Rattle.ql.specs.Ql.{most_sweeps, settled}
 use Prim.Native.Nat.{ℕ, suc, ◌+◌, ◌-◌}
 use native.Mathlib.Omega.{arith}
 use lib.Dec.{eqb}
@@ -41,9 +41,14 @@ pub loop-preserved : goal.loop-preserved
 loop-preserved c = let loop = c.loop in
     let s = loop.self in
     let t = c.sweep.new.self in
-    let g = c.sweep.ensures.same_runs in
-    (omega arith, g.0 ∙ loop.invariant.1, g.1 ∙ loop.invariant.2, g.2 ∙ loop.invariant.3, rw c.swept-tally.ensures (omega arith),
-    sym (swept s.n c.args.l c.block_end-m.result (most_sweeps - loop.counter) s.d.now s.e.now loop.tally (most_sweeps - (loop.counter + 1)) t.n t.d.now t.e.now c.swept-tally.result (omega arith) c.block_end-m.ensures.value (ne_eqb _ _ c.if-m-l.false) g.2 c.sweep.ensures.d_after c.sweep.ensures.e_after c.swept-tally.ensures) ∙ loop.invariant.5)
+    let g = c.sweep.ensures.same_runs in (
+      omega arith,
+      g.0 ∙ loop.invariant.1,
+      g.1 ∙ loop.invariant.2,
+      g.2 ∙ loop.invariant.3,
+      rw c.swept-tally.ensures (omega arith),
+      sym (swept s.n c.args.l c.block_end-m.result (most_sweeps - loop.counter) s.d.now s.e.now loop.tally (most_sweeps - (loop.counter + 1)) t.n t.d.now t.e.now c.swept-tally.result (omega arith) c.block_end-m.ensures.value (ne_eqb _ _ c.if-m-l.false) g.2 c.sweep.ensures.d_after c.sweep.ensures.e_after c.swept-tally.ensures) ∙ loop.invariant.5,
+    )
 
 pub returns : goal.returns
 returns c = let loop = c.loop in

@@ -1,4 +1,4 @@
-use Rattle.std.specs.Prelude.{Option, Some, None}
+use Rattle.std.specs.Prelude.{Some, None}
 use mathlib.Core.Path.{◌≡◌, refl, ap, sym, ◌∙◌}
 use Prim.Native.Nat.{ℕ, suc, ◌+◌, ◌-◌}
 use native.Mathlib.Omega.{arith}
@@ -9,7 +9,7 @@ use Rattle.floats.specs.Words.{◌⊖◌, ◌‼◌, plus_zero}
 use Rattle.ql.specs.declared.Rotation.{Rotation}
 use Rattle.ql.specs.declared.Rotated.{Rotated}
 use Rattle.ql.specs.Rotation.{rotated}
-use Rattle.ql.specs.Sweep.{Bands, sweep_from, sweep_of}
+use Rattle.ql.specs.Sweep.{sweep_from, sweep_of}
 use Rattle.ql.proofs.Bands.sweep.Goals as goal
 
 -- a rotation, at index j, when f are left after it
