@@ -1,29 +1,16 @@
 -- Laws of the weights: the weights gathered so far with those still to come; the signs of no weight and of some. Assumes nothing.
 use mathlib.Core.Path.{◌≡◌, refl, sym, ap, ◌∙◌}
-use Prim.Native.Nat.{ℕ, zero, suc, ◌+◌, ◌≤◌, ◌<◌}
+use Prim.Native.Nat.{ℕ, suc, ◌+◌, ◌≤◌, ◌<◌}
 use native.Mathlib.Numerals.{add-one}
 use native.Mathlib.Nat.{suc-ne-zero}
 use native.Mathlib.Omega.{arith}
 use mathlib.Core.Bool.{Bool, true, false, cond}
 use mathlib.Core.List.{List, [], ◌∷◌, ◌++◌, append_assoc, append-nil}
 use lib.ListN.{length, take, drop, set, length-set, take-append-drop}
-use lib.Seq.{take-length, drop-cons, drop-length, take-suc-set, drop-set-lt, drop-drop, length-take-le}
+use lib.Seq.{drop-cons, drop-length, take-suc-set, drop-set-lt, drop-drop, length-take-le}
 use lib.Ieee.{Float, nan, eq}
-use Rattle.std.specs.List.{fold}
-use Rattle.std.proofs.lemmas.List.Sums.{fold_more}
-use Rattle.floats.specs.Sums.{sum_of}
-use Rattle.floats.specs.Words.{◌⊕◌, ◌⊖◌, ◌‼◌, plus_zero, minus_zero}
+use Rattle.floats.specs.Words.{◌⊖◌, ◌‼◌, plus_zero}
 use Rattle.weights.specs.Weights.{weights_of, all_above, all_below, none, signs_of, signs_by}
-
--- a sum of terms, first to last, is std's fold from -0
-module _ (term : Float → Float) (xs : List Float) where
-  fold-to : (i : ℕ) → i ≤ length xs → fold (λ s x. s ⊕ term x) minus_zero (take i xs) ≡ sum_of i (λ t. term (xs ‼ t))
-  unfolding sum_of
-  fold-to zero h = refl
-  fold-to (suc i) h = ap (λ (k : ℕ). fold (λ s x. s ⊕ term x) minus_zero (take k xs)) (sym (add-one i)) ∙ fold_more (λ s x. s ⊕ term x) minus_zero xs i nan (omega arith) ∙ ap (λ (s : Float). s ⊕ term (xs ‼ i)) (fold-to i (omega arith))
-
-  pub fold-sum : fold (λ s x. s ⊕ term x) minus_zero xs ≡ sum_of (length xs) (λ t. term (xs ‼ t))
-  fold-sum = ap (fold (λ s x. s ⊕ term x) minus_zero) (sym (take-length xs)) ∙ fold-to (length xs) (omega arith)
 
 -- there are no more weights than eigenvalues
 pub length-weights : (es : List Float) (d : Float) → length (weights_of es d) ≤ length es

@@ -7,9 +7,6 @@ use lib.ListN.{length}
 use Rattle.weights.proofs.shift.Goals.{then-w, else-w}
 use Rattle.weights.proofs.shift.Goals as goal
 
-pub loop-x-init : goal.loop-x-init
-loop-x-init c = (omega arith, refl, refl, refl)
-
 pub loop-x-preserved : goal.loop-x-preserved
 unfolding ne
 loop-x-preserved c =

@@ -29,9 +29,6 @@ returns-then-not-are_finite c = let f = integrand_of c.args.weights.now in
     ap₂ (λ p q. finite_part p && finite_part q) left right ∙ sym c.are_finite.ensures ∙ c.if-not-are_finite.true in
     record { value = λ t. sym (ap (λ s. s.standing) (next-refused f ps t more broken)); parts_after = λ t. sym (ap (λ s. laid_out s.parts r) (next-refused f ps t more broken) ∙ laid_in c.args.n r) }
 
-pub replace-requires : goal.replace-requires
-replace-requires c = (c.worst-w.ensures.bound, c.requires.1, c.requires.2)
-
 pub returns : goal.returns
 returns c = let f = integrand_of c.args.weights.now in
     let r = c.args.parts.now in

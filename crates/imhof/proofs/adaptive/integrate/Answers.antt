@@ -7,21 +7,13 @@ use Rattle.imhof.specs.Rule.{gk15_of}
 use Rattle.imhof.specs.Integrand.{integrand_of}
 use Rattle.floats.specs.Count.{no_work}
 use Rattle.floats.specs.Turns.{turns}
-use lib.Dec.{lit<}
 use mathlib.Core.Bool.{true}
-use native.Mathlib.Omega.{arith}
 use mathlib.Core.Path.{◌≡◌, ap, sym, ◌∙◌}
 use Rattle.imhof.proofs.adaptive.integrate.Goals as goal
 
 pub returns-then-not-is_finite : goal.returns-then-not-is_finite
 returns-then-not-is_finite c = let e = first-refused (integrand_of c.args.weights.now) c.args.lo c.args.hi (ap finite_part (sym c.gk15-whole.ensures) ∙ sym c.is_finite.ensures ∙ c.if-not-is_finite.true) in
     record { value = ap quadrature_of (sym e); parts_after = sym (ap (λ s. laid_out s.parts c.args.parts.now) e ∙ laid_none c.args.parts.now) }
-
-pub put-requires : goal.put-requires
-put-requires c = (lit< tt, c.requires)
-
-pub refine-requires : goal.refine-requires
-refine-requires c = omega (arith, c.put.auto.room, c.requires)
 
 pub returns : goal.returns
 returns c = let f = integrand_of c.args.weights.now in

@@ -1,11 +1,11 @@
 use Rattle.imhof.specs.declared.Standing.TheVariants.{Refused}
 use Rattle.imhof.specs.Imhof.{quadrature_of}
 use Rattle.imhof.specs.Integrand.{integrand_of}
-use Rattle.imhof.specs.Parts.{most_parts, one_rule}
+use Rattle.imhof.specs.Parts.{one_rule}
 use Rattle.imhof.specs.Rule.{rule_size}
 use Rattle.std.specs.Prelude.{Ok}
 use Rattle.floats.specs.Count.{no_work}
-use Rattle.imhof.proofs.HeldLaws.{Held, Answered, held_first, held_next, held_all, held-settled, held-refused, ended-laid, answer-open, answer-settled}
+use Rattle.imhof.proofs.HeldLaws.{Held, held_first, held_next, held-settled, held-refused, ended-laid, answer-settled}
 use mathlib.Core.Path.{subst}
 use Prim.Native.Nat.{◌+◌}
 use native.Mathlib.Omega.{arith}
@@ -35,10 +35,3 @@ loop-n-preserved c = let f = integrand_of c.args.weights.now in
     let r = c.args.parts.now in
     let next = held_next f (first r) r c.loop-n.parts c.loop-n.tally c.loop-n.n (omega arith) c.loop-n-test.true (omega (arith, c.loop-n.auto.parts, c.requires)) c.loop-n.invariant.2 c.advance.new.parts (c.in-Open.ensures.value c.loop-n.tally) (c.advance.ensures.parts_after c.loop-n.tally) in
     (ap (λ t. t.bisections + 1) c.with_bisection-tally.ensures ∙ ap (λ n. n + 1) c.loop-n.invariant.0, ap (λ t. t.evaluations + rule_size) c.with_bisection-tally.ensures ∙ omega (arith, c.loop-n.invariant.1), subst (λ u. Held f (first r) r c.advance.new.parts u (c.loop-n.n + 1)) (sym c.with_bisection-tally.ensures) next)
-
-pub returns : goal.returns
-returns c = let f = integrand_of c.args.weights.now in
-    let r = c.args.parts.now in
-    let all : c.loop-n.n ≡ most_parts = omega (arith, c.loop-n.auto.n-end, c.loop-n-test.false) in
-    let end = subst (λ n. Answered f (first r) r c.loop-n.parts c.loop-n.tally n) all (answer-open f (first r) r c.loop-n.parts c.loop-n.tally c.loop-n.n (held_all f (first r) r c.loop-n.parts c.loop-n.tally c.loop-n.n all c.loop-n.invariant.2)) in
-    record { value = ap Ok c.total-2.ensures ∙ end.0; parts_after = end.1 }

@@ -38,7 +38,3 @@ loop-i-preserved c =
           let same : (i + 1) / 2 ≡ i / 2 = omega arith in
           (omega arith, rw c.loop-i.invariant.1 (one_more c.args.f.now i (omega arith)), w.g-is ∙ rw same c.loop-i.invariant.2)
     ]
-
-pub returns : goal.returns
-returns c = let all : c.loop-i.i ≡ 7 = omega arith in
-    rw (c.abs.ensures, c.loop-i.invariant.1, c.loop-i.invariant.2, all)

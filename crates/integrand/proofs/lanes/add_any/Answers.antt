@@ -17,9 +17,3 @@ loop-j-preserved c = let l = c.loop-j in
       angles = rw (c.atan.ensures, l.invariant.angles, filled-here _ _ _ nan h) (filled_more _ _ _ nan h);
       logs = rw (c.ln_1p.ensures, l.invariant.logs, filled-here _ _ _ nan k) (filled_more _ _ _ nan k);
     }
-
-pub returns : goal.returns
-returns c = record {
-  angles_after = c.loop-j.invariant.angles ∙ filled-all _ _ _ (omega (arith, c.told-angles)) (omega (arith, c.told-angles)) ∙ rw c.told-angles;
-  logs_after = c.loop-j.invariant.logs ∙ filled-all _ _ _ (omega (arith, c.told-logs)) (omega (arith, c.told-logs)) ∙ rw c.told-logs;
-}

@@ -10,9 +10,6 @@ use Rattle.integrand.proofs.lanes.add_near.Goals as goal
 pub loop-j-init : goal.loop-j-init
 loop-j-init c = record { angles = filled_none _ _; logs = filled_none _ _ }
 
-pub place-i-requires : goal.place-i-requires
-place-i-requires c = c.requires c.loop-j.j (omega (arith, c.told-u))
-
 pub loop-j-preserved : goal.loop-j-preserved
 unfolding points
 loop-j-preserved c = let l = c.loop-j in
@@ -22,9 +19,3 @@ loop-j-preserved c = let l = c.loop-j in
       angles = rw (c.signed.ensures, c.angle_near.ensures, c.place-i.ensures.value, l.invariant.angles, filled-here _ _ _ nan h) (filled_more _ _ _ nan h);
       logs = rw (c.log_near.ensures, c.place-i.ensures.value, l.invariant.logs, filled-here _ _ _ nan k) (filled_more _ _ _ nan k);
     }
-
-pub returns : goal.returns
-returns c = record {
-  angles_after = c.loop-j.invariant.angles ∙ filled-all _ _ _ (omega (arith, c.told-angles)) (omega (arith, c.told-angles)) ∙ rw c.told-angles;
-  logs_after = c.loop-j.invariant.logs ∙ filled-all _ _ _ (omega (arith, c.told-logs)) (omega (arith, c.told-logs)) ∙ rw c.told-logs;
-}

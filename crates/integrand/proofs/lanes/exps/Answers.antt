@@ -13,6 +13,3 @@ pub loop-x-preserved : goal.loop-x-preserved
 loop-x-preserved c = let l = c.loop-x in
     let h : l.x-index < length c.args.xs.now = omega (arith, c.told-xs) in
     rw (c.exp.ensures, l.invariant, filled-here _ _ _ nan h) (filled_more _ _ _ nan h)
-
-pub returns : goal.returns
-returns c = c.loop-x.invariant ∙ filled-all _ _ _ (omega (arith, c.told-xs)) (omega (arith, c.told-xs)) ∙ rw c.told-xs

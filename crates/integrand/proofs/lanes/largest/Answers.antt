@@ -27,6 +27,3 @@ loop-x-preserved c =
       | then-most-x w ↦ (ap minus w.most-is ∙ above-plus (us ‼ l.x-index) above, ap is_nan w.most-is ∙ above-number (us ‼ l.x-index) above, rw w.most-is (upto-more us l.x-index l.most l.invariant.0 l.invariant.1 l.invariant.2 above w.if-most-x.true))
       | else-most-x w ↦ (ap minus w.most-is ∙ l.invariant.0, ap is_nan w.most-is ∙ l.invariant.1, rw w.most-is (upto-same us l.x-index l.most l.invariant.0 l.invariant.1 l.invariant.2 above w.if-most-x.false))
     ]
-
-pub returns : goal.returns
-returns c = inr (λ j h. c.loop-x.invariant.2 j (omega arith))

@@ -13,6 +13,3 @@ pub loop-j-preserved : goal.loop-j-preserved
 loop-j-preserved c = let l = c.loop-j in
     let h : l.j < length c.args.s.now = omega (arith, c.told-s) in
     rw (c.sin.ensures, l.invariant) (filled_more _ _ _ nan h)
-
-pub returns : goal.returns
-returns c = c.loop-j.invariant ∙ filled-all _ _ _ (omega (arith, c.told-s)) (omega (arith, c.told-s)) ∙ rw c.told-s

@@ -6,9 +6,10 @@ use Rattle.floats.specs.Signs.{abs_of}
 use Rattle.floats.specs.Words.{◌⊕◌, ◌⊗◌, minus_zero}
 use Rattle.elementary.specs.Ln.{ln_of}
 use Rattle.elementary.specs.Patterns.{half}
-use Rattle.weights.proofs.WeightLaws.{fold-sum}
+use Rattle.floats.proofs.FoldLaws.{fold-sum}
+use lib.Ieee.{nan}
 use Rattle.weights.proofs.range.half_log_prod.Goals as goal
 
 pub returns : goal.returns
 returns c = let folded : c.fold.result ≡ fold (λ s w. s ⊕ ln_of (abs_of w)) minus_zero c.args.weights.now = fold_from_yields_List _ (λ s w. s ⊕ ln_of (abs_of w)) minus_zero c.fold.result c.fold.ensures.ran (YieldsList-from_slice c.args.weights.now cc) (λ a x b q h. search (rules, h)) in
-    ap (λ (s : Float). half ⊗ s) (folded ∙ fold-sum (λ w. ln_of (abs_of w)) c.args.weights.now)
+    ap (λ (s : Float). half ⊗ s) (folded ∙ fold-sum (λ w. ln_of (abs_of w)) nan c.args.weights.now)
