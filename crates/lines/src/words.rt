@@ -52,7 +52,7 @@ fn put_digits(out: &mut [u8], n: u64, base: u64)
     ensures { out.new ≡ digits base (length out.old) n }
 {
     let mut rest = n;
-    // kept as an index loop: of the items of iter_mut().rev() a proof knows none by its place
+    // kept as an index loop: after one over iter_mut().rev() a proof knows nothing of the slice
     for t in (0..out.len()).rev() {
         out[t] = digit(rest % base);
         rest /= base;
