@@ -25,21 +25,14 @@ pub fn of_bits(b: u64) -> f64
     f64::from_bits(b)
 }
 
-fn wide(x: u8) -> u64
-    ensures value { result ≡ x }
-    ensures byte { result < 256 }
-{
-    x as u64
-}
-
 // The number that `k` bytes of `s` from `i` on stand for, the least byte first.
 pub fn little_endian(s: &[u8], i: usize, k: usize) -> u64
     requires { (k ≤ 8) × (i + k ≤ length s.now) }
     ensures { result ≡ little_endian k s.now i }
 {
     let mut n: u64 = 0;
-    for t in 0..k {
-        n = n * 256 + wide(s[i + (k - 1 - t)]);
+    for t in (0..k).rev() {
+        n = n * 256 + u64::from(s[i + t]);
     }
     n
 }

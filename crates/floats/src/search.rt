@@ -9,5 +9,5 @@ pub fn first_bad(xs: &[f64]) -> Option<usize>
     ensures value { result ≡ first_bad xs.now }
     ensures held_by { HeldBy result xs.now }
 {
-    xs.iter().position(|x| !is_finite(*x))
+    xs.iter().position(|&x| !is_finite(x))
 }

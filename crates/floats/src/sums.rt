@@ -6,14 +6,14 @@ ghost use Rattle.floats.specs.Sums.{sum_run, sum_squares, sum_products};
 pub fn sum(xs: &[f64]) -> f64
     ensures { result ≡ sum_run xs.now }
 {
-    xs.iter().fold(-0.0, |s, x| s + *x)
+    xs.iter().fold(-0.0, |s, &x| s + x)
 }
 
 // Their squares.
 pub fn sum_squares(xs: &[f64]) -> f64
     ensures { result ≡ sum_squares xs.now }
 {
-    xs.iter().fold(-0.0, |s, x| s + *x * *x)
+    xs.iter().fold(-0.0, |s, &x| s + x * x)
 }
 
 // The products of `n` numbers of `xs` from `a` on with `n` numbers of `ys` from `b` on.
@@ -21,5 +21,8 @@ pub fn sum_products(xs: &[f64], a: usize, ys: &[f64], b: usize, n: usize) -> f64
     requires { (a + n ≤ length xs.now) × (b + n ≤ length ys.now) }
     ensures { result ≡ sum_products xs.now a ys.now b n }
 {
-    xs[a..a + n].iter().zip(&ys[b..b + n]).fold(-0.0, |s, (x, y)| s + *x * *y)
+    xs[a..a + n]
+        .iter()
+        .zip(&ys[b..b + n])
+        .fold(-0.0, |s, (&x, &y)| s + x * y)
 }

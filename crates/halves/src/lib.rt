@@ -93,9 +93,9 @@ pub fn add_rows(row: &mut [f64], xs: &[f64], stride: usize, w: &[f64])
         return;
     }
     let mut start = 0usize;
-    for (t, x) in w.iter().enumerate() {
+    for (t, &x) in w.iter().enumerate() {
         let end = start + row.len();
-        rows::add_one(row, &xs[start..end], *x);
+        rows::add_one(row, &xs[start..end], x);
         start = start + (stride + t);
     }
 }
@@ -113,15 +113,15 @@ fn eight_dots(xs: &[f64], stride: usize, v: &[f64]) -> [f64; 8]
     let mut f = -0.0f64;
     let mut g = -0.0f64;
     let mut h = -0.0f64;
-    for (j, x) in v.iter().enumerate() {
-        a = a + xs[j] * *x;
-        e = e + xs[4 * stride + 6 + j] * *x;
-        c = c + xs[2 * stride + 1 + j] * *x;
-        g = g + xs[6 * stride + 15 + j] * *x;
-        b = b + xs[stride + j] * *x;
-        f = f + xs[5 * stride + 10 + j] * *x;
-        d = d + xs[3 * stride + 3 + j] * *x;
-        h = h + xs[7 * stride + 21 + j] * *x;
+    for (j, &x) in v.iter().enumerate() {
+        a = a + xs[j] * x;
+        e = e + xs[4 * stride + 6 + j] * x;
+        c = c + xs[2 * stride + 1 + j] * x;
+        g = g + xs[6 * stride + 15 + j] * x;
+        b = b + xs[stride + j] * x;
+        f = f + xs[5 * stride + 10 + j] * x;
+        d = d + xs[3 * stride + 3 + j] * x;
+        h = h + xs[7 * stride + 21 + j] * x;
     }
     [a, b, c, d, e, f, g, h]
 }
@@ -149,10 +149,10 @@ pub fn add_corner(p: &mut [f64], xs: &[f64], stride: usize, v: &[f64])
     ensures { p.new ≡ table (λ s. sum_from (p.old ‼ s) (length p.old) (λ u. xs.now ‼ (row_start stride (max s u) + min s u) ⊗ v.now ‼ u)) (length p.old) }
 {
     let mut start = 0usize;
-    for s in 0..p.len() {
-        let x = v[s];
+    for (s, &x) in v.iter().enumerate() {
         let own = xs[start + s];
         let mut sum = p[s];
+        // kept as an index loop: it reads two runs and changes a third at u
         for u in 0..s {
             let a = xs[start + u];
             sum = sum + a * v[u];

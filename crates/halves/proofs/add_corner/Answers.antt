@@ -11,7 +11,7 @@ use borrow.Author.Rules.{rules}
 use Rattle.halves.proofs.add_corner.Goals as goal
 
 pub loop-s-init : goal.loop-s-init
-loop-s-init c = (omega arith, refl, refl, sym (start_none _), filled_none _ _)
+loop-s-init c = (omega arith, refl, c.requires.2, sym (start_none _), filled_none _ _)
 
 pub overflow_add-own : goal.overflow_add-own
 overflow_add-own c = let h = c.requires.3 c.loop-s.s (search rules) in omega (arith, c.loop-s.invariant.3)

@@ -13,7 +13,7 @@ loop-j-preserved g c =
     let here : goal.F-post g c.args.f l.j (c.args.row.now ‼ l.j) c.f.result = subst (λ (x : Float). goal.F-post g c.args.f l.j x c.f.result) (l.invariant.rest l.j (omega arith)) c.f.ensures in
     record {
       done = stored-more (λ i x. goal.F-post g c.args.f i (c.args.row.now ‼ i) x) l.row l.j c.f.result inside l.invariant.done here;
-      rest = stored-rest l.row c.args.row.now l.j c.f.result l.invariant.rest
+      rest = stored-rest l.row c.args.row.now l.j c.f.result l.invariant.rest;
     }
 
 pub returns-clause-each : goal.returns-clause-each

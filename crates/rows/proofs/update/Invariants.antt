@@ -6,5 +6,5 @@ use Rattle.rows.proofs.update.Given as goal
 abbrev pub invariant-loop-j : goal.invariant-loop-j
 invariant-loop-j g l = record {
   done : (i : ℕ) → i < l.j → goal.F-post g l.f i (l.initial.row ‼ i) (l.row ‼ i);
-  rest : (i : ℕ) → l.j ≤ i → l.row ‼ i ≡ l.initial.row ‼ i
+  rest : (i : ℕ) → l.j ≤ i → l.row ‼ i ≡ l.initial.row ‼ i;
 }
