@@ -14,7 +14,6 @@ use Rattle.std.specs.Prelude.{Option, Some, None, Result, Ok, Err}
 use Rattle.columns.specs.declared.SheetSize.{SheetSize}
 use Rattle.columns.specs.declared.SizeError.{SizeError}
 use Rattle.columns.specs.declared.SizeError.TheVariants.{TooManyRows, TooManyColumns}
-use Rattle.columns.specs.declared.ColumnsError.{ColumnsError}
 use Rattle.columns.specs.declared.ColumnsError.TheVariants.{NoColumn, WrongLength}
 use Rattle.columns.specs.Sheet.{size_of, numbers_by, run_of, run_by, columns_of, Design}
 
@@ -23,8 +22,8 @@ pub fits-within : (n k : ℕ) {size : SheetSize} → size_of n k ≡ Ok size →
 fits-within n k {size} h = go (ltb max_rows n) (ltb max_columns k) refl refl h
   where
     go : (a b : Bool) → ltb max_rows n ≡ a → ltb max_columns k ≡ b → cond a (Err TooManyRows) (cond b (Err TooManyColumns) (Ok (record { rows = n; columns = k }))) ≡ Ok size → (n ≤ max_rows) × (k ≤ max_columns) × (size ≡ record { rows = n; columns = k })
-    go true b p q e = let z : ◌≡◌ {A = ℕ} 0 1 = cc in absurd (omega arith)
-    go false true p q e = let z : ◌≡◌ {A = ℕ} 0 1 = cc in absurd (omega arith)
+    go true b p q e = cc
+    go false true p q e = cc
     go false false p q e = (ltb-false max_rows n p, ltb-false max_columns k q, cc)
 
 -- what a caller of the later steps may take from sound columns
@@ -34,23 +33,20 @@ pub record SoundColumns (x : List Float) (n k : ℕ) (size : SheetSize) : Type 0
   pub design : Design size x
   pub numbers : first_bad x ≡ None
 
-never : {b : Result SheetSize ColumnsError} {size : SheetSize} → b ≡ Ok size → (b ≡ Ok size → ◌≡◌ {A = ℕ} 0 1) → ⊥
-never e f = let z = f e in omega arith
-
 run_sound : (x : List Float) (size : SheetSize) {found : SheetSize} → run_of x size ≡ Ok found → (found ≡ size) × (size.columns * size.rows ≡ length x) × (first_bad x ≡ None)
 run_sound x size {found} h = go (eqb (length x) (size.columns * size.rows)) (first_bad x) refl refl h
   where
     go : (b : Bool) (f : Option ℕ) → eqb (length x) (size.columns * size.rows) ≡ b → first_bad x ≡ f → cond b (numbers_by size f) (Err WrongLength) ≡ Ok found → (found ≡ size) × (size.columns * size.rows ≡ length x) × (first_bad x ≡ None)
-    go true (Some t) p q e = absurd (never e (λ e. cc))
+    go true (Some t) p q e = cc
     go true None p q e = (cc, sym (eqb-true (length x) (size.columns * size.rows) p), q)
-    go false f p q e = absurd (never e (λ e. cc))
+    go false f p q e = cc
 
 pub sound-columns : (x : List Float) (n k : ℕ) {size : SheetSize} → columns_of x n k ≡ Ok size → SoundColumns x n k size
 sound-columns x n k {size} h = go (eqb k 0) (size_of n k) refl refl h
   where
     go : (b : Bool) (s : Result SheetSize SizeError) → eqb k 0 ≡ b → size_of n k ≡ s → cond b (Err NoColumn) (run_by s x) ≡ Ok size → SoundColumns x n k size
-    go true s p q e = absurd (never e (λ e. cc))
-    go false (Err why) p q e = absurd (never e (λ e. cc))
+    go true s p q e = cc
+    go false (Err why) p q e = cc
     go false (Ok fitting) p q e =
         let w = fits-within n k q in
         let r = run_sound x fitting e in

@@ -18,23 +18,19 @@ use Rattle.elementary.specs.Patterns.{half}
 use Rattle.elementary.specs.Bounds.{Within}
 use Rattle.elementary.proofs.Small.{fraction-within}
 use Rattle.design.specs.Law.{law_answer}
-use Rattle.std.specs.Prelude.{Result, Ok, Err}
-use Rattle.design.specs.declared.LawError.{LawError}
+use Rattle.std.specs.Prelude.{Ok, Err}
 use Rattle.design.specs.declared.LawError.TheVariants.{NotFinite, NotSpread}
 use Rattle.design.proofs.NotBelow.{Plus, wide, part}
 
 -- ---- what the answer tells of the law
-never : {b : Result NormalLaw LawError} {law : NormalLaw} → b ≡ Ok law → (b ≡ Ok law → ◌≡◌ {A = ℕ} 0 1) → ⊥
-never e f = let z = f e in omega arith
-
 pub usable : (law found : NormalLaw) → law_answer law ≡ Ok found → (found ≡ law) × (finite law.mean ≡ true) × (finite law.variance ≡ true) × (lt plus_zero law.variance ≡ true)
 usable law found h = go (finite law.mean) (finite law.variance) (lt plus_zero law.variance) refl refl refl h
   where
     go : (a b c : Bool) → finite law.mean ≡ a → finite law.variance ≡ b → lt plus_zero law.variance ≡ c → cond (a && b) (cond c (Ok law) (Err NotSpread)) (Err NotFinite) ≡ Ok found
         → (found ≡ law) × (finite law.mean ≡ true) × (finite law.variance ≡ true) × (lt plus_zero law.variance ≡ true)
-    go false b c p q r e = absurd (never e (λ e. cc))
-    go true false c p q r e = absurd (never e (λ e. cc))
-    go true true false p q r e = absurd (never e (λ e. cc))
+    go false b c p q r e = cc
+    go true false c p q r e = cc
+    go true true false p q r e = cc
     go true true true p q r e = (cc, p, q, r)
 
 -- ---- sizes, and numbers that are finite

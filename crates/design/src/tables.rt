@@ -14,6 +14,7 @@ pub fn sum_of<F: Fn(usize) -> f64>(n: usize, term: F) -> f64
     ensures { (f : ℕ → Float) → ((t : ℕ) (x : Float) → t < n → F.post term t x → x ≡ f t) → result ≡ sum_of n f }
 {
     let mut s = -0.0f64;
+    // kept as a loop: tried fold over 0..n, which asks that term may be called at every index
     for t in 0..n {
         s = s + term(t);
     }
