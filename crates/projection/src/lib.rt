@@ -69,6 +69,7 @@ fn load_rows(
         halves::copy_row(before, m, 0, 0);
     }
     halves::copy_row(here, m, t, 0);
+    // kept as an index loop: after chunks_mut a proof knows no number of w
     for s in 0..k {
         let start = s * stride;
         let end = start + n;
@@ -175,6 +176,7 @@ impl<'a> Fit<'a> {
         let n = self.size.rows;
         let k = self.size.columns;
         let mut s = -0.0f64;
+        // kept as an index loop: m picks a column of X and a row of the inverse at once, which an iterator says no plainer
         for m in 0..k {
             s = s + self.x[m * n + t] * self.inv[m][c];
         }

@@ -115,6 +115,7 @@ impl<'a> Bands<'a> {
         ensures value { result ≡ block_end self.now.n self.now.d.now self.now.e.now l }
     {
         let mut above = size(self.d[l]);
+        // kept as a for: the size of an entry is carried to the next step, which find would work out twice
         for m in l..self.n - 1 {
             let below = size(self.d[m + 1]);
             if is_negligible(self.e[m], above, below) {

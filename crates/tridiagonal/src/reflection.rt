@@ -64,6 +64,7 @@ fn image(p: &mut [f64], a: &[f64], n: usize, c: usize, v: &[f64])
     ensures { p.new ≡ image_of n c (whole n a.now) v.now }
 {
     let m = v.len();
+    // kept as a while: the first and the last group are of fewer rows, so no fixed step fits
     let mut r = 0usize;
     while r < m {
         let next = group_end(n, c + 1 + r) - (c + 1);

@@ -46,7 +46,7 @@ fn spectrum_of(
     room: &mut [f64],
     kept: &mut [f64],
 ) -> Result<Numbers, TestError>
-    requires { (sheet.entry.size.columns ≤ sheet.entry.size.rows) × (matrix_room sheet.entry.size.rows ≤ length room.old) × (sheet.entry.size.rows ≤ length kept.old) }
+    requires { (sheet.size.columns ≤ sheet.size.rows) × (matrix_room sheet.size.rows ≤ length room.old) × (sheet.size.rows ≤ length kept.old) }
 {
     let inverse = match given {
         Some(inverse) => inverse,
