@@ -3,7 +3,7 @@
 //! limit small ERROR BISECTIONS: what is_small says of an integral with these
 use floats::tally::Tally;
 use imhof::adaptive::{integrate, is_small};
-use imhof::{Integral, Quadrature};
+use imhof::{Integral, NotFinite};
 
 fn number(word: &str) -> Option<f64> {
     u64::from_str_radix(word, 16).ok().filter(|_| word.len() == 16).map(f64::from_bits)
@@ -14,11 +14,11 @@ fn answer(words: &[&str]) -> Option<String> {
         ["integral", count, weight, low, high] => {
             let weights = vec![number(weight)?; count.parse().ok()?];
             Some(match integrate(&weights, number(low)?, number(high)?, &mut vec![0.0; 8004]) {
-                Quadrature::Sum(i) => {
+                Ok(i) => {
                     let Tally { bisections, evaluations, .. } = i.tally;
                     format!("{:016x} {:016x} {bisections} {evaluations} {}", i.value.to_bits(), i.error.to_bits(), is_small(i) as u8)
                 }
-                Quadrature::Broken => "broken".to_string(),
+                Err(NotFinite) => "broken".to_string(),
             })
         }
         ["small", error, bisections] => {

@@ -4,7 +4,7 @@
 mod sheet_file;
 
 use lines::{FIELDS, LONGEST};
-use sheet::file::{Entry, FileCheck, FileRefusal, Next};
+use sheet::file::{Entry, FileRefusal};
 use sheet_file::{Alternative, Choice, Sheet};
 use std::io::{self, BufReader, Read};
 use std::process::ExitCode;
@@ -63,7 +63,7 @@ fn compare_any_positions(file: &[u8], entry: Entry, seed: u64) -> Result<(), Str
 
 /// Any bytes may be asked for any entry, and an entry need not be one of the file's.
 fn compare_any_entry(file: &[u8], i: usize, seed: u64) -> Result<(), String> {
-    let Next::Sheet(entry) = sheet::reader::read_entry(file, i) else {
+    let Some(entry) = sheet::reader::read_entry(file, i) else {
         return Ok(());
     };
     agree("positions byte", entry.positions.into(), file[4 + 16 * i + 10].into())?;
@@ -155,25 +155,25 @@ fn compare_words(seed: u64) -> Result<(), String> {
 
 fn compare_file(file: &[u8], counts: &mut Counts) -> Result<(), String> {
     match (sheet::file::check_file(file), sheet_file::read(file)) {
-        (FileCheck::Refused(refusal), Err(theirs)) => {
+        (Err(refusal), Err(theirs)) => {
             compare_refusal(refusal, &theirs)?;
             counts.refused[theirs.number as usize] += 1;
         }
-        (FileCheck::Accepted(count), Ok(sheets)) => {
+        (Ok(count), Ok(sheets)) => {
             agree("entries", count as u64, sheets.len() as u64)?;
             for (i, sheet) in sheets.iter().enumerate() {
                 match sheet::reader::read_entry(file, i) {
-                    Next::Sheet(entry) => compare_sheet(file, entry, sheet, counts).map_err(|e| format!("entry {i}: {e}"))?,
-                    Next::End => return Err(format!("entry {i}: the port's reader is at its end")),
+                    Some(entry) => compare_sheet(file, entry, sheet, counts).map_err(|e| format!("entry {i}: {e}"))?,
+                    None => return Err(format!("entry {i}: the port's reader is at its end")),
                 }
             }
-            if let Next::Sheet(_) = sheet::reader::read_entry(file, count) {
+            if sheet::reader::read_entry(file, count).is_some() {
                 return Err("the port's reader goes on past the last entry".to_string());
             }
             counts.accepted += 1;
         }
-        (FileCheck::Refused(refusal), Ok(_)) => return Err(format!("the port refuses it with {}, the oracle accepts it", refusal.number())),
-        (FileCheck::Accepted(_), Err(theirs)) => return Err(format!("the port accepts it, the oracle refuses it with {}", theirs.number)),
+        (Err(refusal), Ok(_)) => return Err(format!("the port refuses it with {}, the oracle accepts it", refusal.number())),
+        (Ok(_), Err(theirs)) => return Err(format!("the port accepts it, the oracle refuses it with {}", theirs.number)),
     }
     let seed = file.iter().fold(file.len() as u64, |h, &b| h.wrapping_mul(257).wrapping_add(b.into()));
     compare_words(seed)?;

@@ -15,10 +15,7 @@ fn kit(eigenvalues: &[f64], d: f64, parts: &mut [f64]) -> f64 {
 }
 
 fn port(eigenvalues: &[f64], d: f64, parts: &mut [f64]) -> f64 {
-    match imhof::prob_below_zero(eigenvalues, d, parts) {
-        imhof::Exact::Value(estimate) => estimate.probability,
-        _ => 0.0,
-    }
+    imhof::prob_below_zero(eigenvalues, d, parts).map_or(0.0, |estimate| estimate.probability)
 }
 
 /// As `durbin_watson_test` has it.

@@ -30,6 +30,7 @@ pub mod num {
         nearest_i64_to_f64 i64, f64;
         nearest_u32_to_f32 u32, f32;
         nearest_i32_to_f32 i32, f32;
+        nearest_usize_to_f64 usize, f64;
     }
 }
 

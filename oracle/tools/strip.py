@@ -3,6 +3,7 @@
 Cut: `ghost use ..;` lines, the clauses `requires`, `ensures` and `ghost` with their braces, ghost fields and members, the attribute `tactic`, and `Drop` in a derive.
 Opened: private modules, so that a function can be named by its module's path.
 Sent to oracle/standins/rattle_std.rs: what Rattle's std has and Rust's has not, as the runtime that `main` takes, which it is here given at its head.
+Written as Rust has it: the head of a `fmt`, which in Rattle has a parameter for what is written to.
 Newlines inside what is cut stay, so that rustc's line numbers are those of the .rt file.
 """
 import os
@@ -140,6 +141,7 @@ def with_host(text):
     text = re.sub(r"\b(vec|e?print(?:ln)?)!(\s*[(\[]\s*(?:in\b|&?\w+\s*[;)]))", r"rattle_std::host_\1!\2", text)
     text = re.sub(r"(?<![\w:])io::writer\b", "rattle_std::host::writer", text)
     text = re.sub(r"(?<![\w:])std::(num|alloc)::", r"rattle_std::\1::", text)
+    text = re.sub(r"\bfn fmt<(\w+): (?:\w+::)*Write>\(&self, (\w+): &mut ((?:\w+::)*)Formatter<\1>\)", r"fn fmt(&self, \2: &mut \3Formatter<'_>)", text)
     code = re.sub(r"//[^\n]*", "", text)
     used = [name for name in HOST if re.search(r"\b%s\b" % name, code) and not re.search(r"\b(?:struct|enum|trait|type) %s\b" % name, code)]
     if "HostRuntime" in used:
