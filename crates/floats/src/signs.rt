@@ -17,7 +17,7 @@ pub fn is_finite(x: f64) -> bool
 pub fn is_minus(x: f64) -> bool
     ensures { result ≡ minus x }
 {
-    // beside f64::is_sign_negative, of which no promise covers a NaN: this is total
+    // beside f64::is_sign_negative, which asks that x is no NaN: this is total
     super::bits::bits_of(x) >= 0x8000_0000_0000_0000
 }
 
@@ -32,7 +32,7 @@ pub fn abs(x: f64) -> f64
 pub fn copysign(x: f64, y: f64) -> f64
     ensures { result ≡ copysign_of x y }
 {
-    // beside f64::copysign for the same reason
+    // beside f64::copysign, which asks the same of y
     if is_minus(y) { -abs(x) } else { abs(x) }
 }
 
