@@ -28,23 +28,33 @@ pub fn tridiagonalize(a: &mut [f64], n: usize)
     }
 }
 
-// Entry (i, i).
-fn diagonal(a: &[f64], n: usize, i: usize) -> f64
-    requires { (Square n a.now) × (i < n) }
-    ensures { result ≡ entry n (whole n a.now) i i }
-{
-    a[halves::place(i, i)]
+// The lower triangle of a symmetric matrix of n rows.
+#[derive(Clone, Copy)]
+struct Triangle<'a> {
+    a: &'a [f64],
+    n: usize,
+    ghost square: { Square n a.now },
 }
 
-// What couples row i and the next.
-fn coupling(a: &[f64], n: usize, i: usize) -> f64
-    requires { (Square n a.now) × (i < n) }
-    ensures { result ≡ coupling n (whole n a.now) i }
-{
-    if i + 1 < n {
-        a[halves::place(i + 1, i)]
-    } else {
-        0.0
+impl<'a> Triangle<'a> {
+    // Entry (i, i).
+    fn diagonal(&self, i: usize) -> f64
+        requires { i < self.now.n }
+        ensures { result ≡ entry self.now.n (whole self.now.n self.now.a.now) i i }
+    {
+        self.a[halves::place(i, i)]
+    }
+
+    // What couples row i and the next.
+    fn coupling(&self, i: usize) -> f64
+        requires { i < self.now.n }
+        ensures { result ≡ coupling self.now.n (whole self.now.n self.now.a.now) i }
+    {
+        if i + 1 < self.n {
+            self.a[halves::place(i + 1, i)]
+        } else {
+            0.0
+        }
     }
 }
 
@@ -54,6 +64,7 @@ pub fn bands(a: &[f64], n: usize, d: &mut [f64], e: &mut [f64])
     ensures d_after { d.new ≡ diagonal_of n (whole n a.now) ++ drop n d.old }
     ensures e_after { e.new ≡ couplings_of n (whole n a.now) ++ drop n e.old }
 {
-    rows::update(&mut d[..n], |i, _| diagonal(a, n, i));
-    rows::update(&mut e[..n], |i, _| coupling(a, n, i));
+    let lower = Triangle { a, n };
+    rows::update(&mut d[..n], |i, _| lower.diagonal(i));
+    rows::update(&mut e[..n], |i, _| lower.coupling(i));
 }
