@@ -23,14 +23,6 @@ fn group_end(n: usize, i: usize) -> usize
     if n - i <= left { n } else { i + left }
 }
 
-// Column c below the diagonal.
-fn copy_column(v: &mut [f64], a: &[f64], n: usize, c: usize)
-    requires { (length v.old ≡ below n c) × (Square n a.now) × (c + 1 < n) }
-    ensures { v.new ≡ column_of n c (whole n a.now) }
-{
-    halves::copy_row(v, a, c, c + 1);
-}
-
 // The norm, and minus that where `first` is above 0.
 fn signed(norm: f64, first: f64) -> f64
     ensures { result ≡ cond (lt plus_zero first) (neg norm) norm }
@@ -121,23 +113,13 @@ fn lead_column(a: &mut [f64], n: usize, c: usize, alpha: f64)
     a[first] = alpha;
 }
 
-// The matrix after the reflection whose column is `v` less alpha in its first number; `p` is room for a vector.
-fn turn(a: &mut [f64], n: usize, c: usize, alpha: f64, v: &[f64], vv: f64, p: &mut [f64])
-    requires { (Square n a.old) × (c + 1 < n) × (length v.now ≡ below n c) × (length p.old ≡ below n c) }
-    ensures { a.new ≡ half (reflected_entry n c (whole n a.old) alpha v.now (correction_of v.now (image_of n c (whole n a.old) v.now) vv)) n }
-{
-    Block { a, n, c, v }.image(p);
-    correct(p, v, vv);
-    update(a, n, c, v, p);
-    lead_column(a, n, c, alpha);
-}
-
 // Reflection c; `v` and `p` are room for two vectors.
 pub fn reflect(a: &mut [f64], n: usize, c: usize, v: &mut [f64], p: &mut [f64])
     requires { (Square n a.old) × (c + 1 < n) × (length v.old ≡ below n c) × (length p.old ≡ below n c) }
     ensures { a.new ≡ half_of n (reflected n c (whole n a.old)) }
 {
-    copy_column(v, a, n, c);
+    // column c below the diagonal is row c beyond it
+    halves::copy_row(v, a, c, c + 1);
     let norm = roots::sqrt(floats::sums::sum_squares(v));
     if norm == 0.0 {
         return;
@@ -148,5 +130,8 @@ pub fn reflect(a: &mut [f64], n: usize, c: usize, v: &mut [f64], p: &mut [f64])
     if vv == 0.0 {
         return;
     }
-    turn(a, n, c, alpha, v, vv, p);
+    Block { a, n, c, v }.image(p);
+    correct(p, v, vv);
+    update(a, n, c, v, p);
+    lead_column(a, n, c, alpha);
 }
