@@ -179,12 +179,15 @@ impl<'a> Fit<'a> {
         rows::update(u, |c, _| self.weight(i, c));
     }
 
-    // X (X'X)^-1 X'; `u` is room for a row of weights.
-    fn hat(&self, m: &mut [f64], u: &mut [f64])
-        requires { (Square self.now.size.rows m.old) × (length u.old ≡ self.now.size.columns) }
+    // X (X'X)^-1 X'.
+    fn hat(&self, m: &mut [f64])
+        requires { Square self.now.size.rows m.old }
         ensures { m.new ≡ half (hat self.now.x.now self.now.inv.now self.now.size.rows self.now.size.columns) self.now.size.rows }
     {
         let n = self.size.rows;
+        let k = self.size.columns;
+        let mut row = [0.0f64; MAX_COLUMNS];
+        let u = &mut row[..k];
         rows::fill(m, -0.0);
         for i in 0..n {
             self.weights(u, i);
@@ -193,11 +196,11 @@ impl<'a> Fit<'a> {
     }
 
     // M = I - X (X'X)^-1 X'.
-    fn residual_maker(&self, m: &mut [f64], u: &mut [f64])
-        requires { (Square self.now.size.rows m.old) × (length u.old ≡ self.now.size.columns) }
+    fn residual_maker(&self, m: &mut [f64])
+        requires { Square self.now.size.rows m.old }
         ensures { m.new ≡ half (residual self.now.x.now self.now.inv.now self.now.size.rows self.now.size.columns) self.now.size.rows }
     {
-        self.hat(m, u);
+        self.hat(m);
         matrix::negate(m);
         matrix::add_identity(m, self.size.rows);
     }
@@ -208,11 +211,9 @@ impl<'a> Fit<'a> {
         ensures { room.new ≡ half (product self.now.x.now self.now.inv.now self.now.size.rows self.now.size.columns) self.now.size.rows ++ (half (residual self.now.x.now self.now.inv.now self.now.size.rows self.now.size.columns) self.now.size.rows ++ drop (triangle self.now.size.rows + triangle self.now.size.rows) room.old) }
     {
         let n = self.size.rows;
-        let k = self.size.columns;
         let half = halves::place(n, 0);
         let full = half + half;
-        let mut u = [0.0f64; MAX_COLUMNS];
-        self.residual_maker(&mut room[half..full], &mut u[..k]);
+        self.residual_maker(&mut room[half..full]);
         if n <= FEW {
             products::<FEW_WIDE, FEW>(room, n);
         } else {
