@@ -108,6 +108,7 @@ impl<'a> Rows<'a> {
         requires { (Squares self.now.n room.old) × (Loaded self.now.stride self.now.n self.now.block.first (part (triangle self.now.n) (triangle self.now.n + triangle self.now.n) room.old) self.now.block.count self.now.w.now) }
         ensures { room.new ≡ half (λ i j. sum_from (half_entry (take (triangle self.now.n) room.old) i j) self.now.block.count (λ s. half_entry (part (triangle self.now.n) (triangle self.now.n + triangle self.now.n) room.old) i (self.now.block.first + s) ⊗ difference_at (λ r. half_entry (part (triangle self.now.n) (triangle self.now.n + triangle self.now.n) room.old) r j) self.now.n (self.now.block.first + s))) self.now.n ++ drop (triangle self.now.n) room.old }
     {
+        // kept as an index loop: i is a row of M as well as of M A M, and each row of a triangle is a number longer than the one before
         for i in 0..self.n {
             self.add_to_row(room, i);
         }
@@ -120,6 +121,8 @@ const TERMS: usize = 16;
 // M A M into the first half of the room, from M in the second. It has room of its own: of W numbers for the sixteen rows
 // of a block, which stand N apart, and of N for each of two rows of M. To clear much of it costs a small matrix more than
 // the products do; at the stride of the largest `rows::add_terms` takes sixteen terms a pass.
+// kept as functions of the room and n: methods of a struct over a room that they change would each have to say that the
+// struct holds the same room and n still, more than the one fact of them
 fn products<const W: usize, const N: usize>(room: &mut [f64], n: usize)
     requires { (Squares n room.old) × (n ≤ N) × (16 * N ≤ W) × (W ≤ 16 * max_rows) }
     ensures { room.new ≡ half (λ i j. sum_of n (λ t. half_entry (part (triangle n) (triangle n + triangle n) room.old) i t ⊗ difference_at (λ s. half_entry (part (triangle n) (triangle n + triangle n) room.old) s j) n t)) n ++ drop (triangle n) room.old }
@@ -189,6 +192,7 @@ impl<'a> Fit<'a> {
         let mut row = [0.0f64; MAX_COLUMNS];
         let u = &mut row[..k];
         rows::fill(m, -0.0);
+        // kept as an index loop: each row of a triangle is a number longer than the one before, so chunks do not fit
         for i in 0..n {
             self.weights(u, i);
             matrix::add_to_row(m, i, self.x, n, u);

@@ -13,6 +13,7 @@ mod vectors;
 use floats::limits::MAX_ROWS;
 
 // The symmetric matrix of n rows in `a`, made tridiagonal.
+// kept as a run and n: docs/PROMISES.md names this function and bands, so both ask what they asked
 pub fn tridiagonalize(a: &mut [f64], n: usize)
     requires { Square n a.old }
     ensures { a.new ≡ half_of n (tridiagonal_of n (whole n a.old)) }
@@ -22,6 +23,7 @@ pub fn tridiagonalize(a: &mut [f64], n: usize)
     }
     let mut v = [0.0f64; MAX_ROWS];
     let mut p = [0.0f64; MAX_ROWS];
+    // kept as an index loop: c is a column of the whole matrix, and no run holds the columns
     for c in 0..n - 2 {
         let below = n - (c + 1);
         reflection::reflect(a, n, c, &mut v[..below], &mut p[..below]);

@@ -31,6 +31,7 @@ fn signed(norm: f64, first: f64) -> f64
 }
 
 // S, the block of rows and columns c + 1 on of a symmetric matrix of n rows, and a vector v with a number for each of its rows.
+// kept: p is no field, for each method changes it and would have to say that the field is the same run still, more than its length
 #[derive(Clone, Copy)]
 struct Block<'a> {
     a: &'a [f64],
@@ -89,10 +90,13 @@ fn correct(p: &mut [f64], v: &[f64], vv: f64)
 }
 
 // S - (v q' + q v'), each row up to the diagonal.
+// kept as functions of a, n and c, from here on: methods of a struct over a run that they change would each have to say
+// that the struct holds the same run, n and c still, more than the two facts of a and c
 fn update(a: &mut [f64], n: usize, c: usize, v: &[f64], q: &[f64])
     requires { (Square n a.old) × (length v.now ≡ below n c) × (length q.now ≡ below n c) × (c + 1 < n) }
     ensures { a.new ≡ half (λ i j. cond (ltb c i && ltb c j) (block n c (whole n a.old) v.now q.now i j) (half_entry a.old i j)) n }
 {
+    // kept as an index loop: each row of a triangle is a number longer than the one before, so chunks do not fit
     for t in 0..v.len() {
         let start = halves::place(c + 1 + t, c + 1);
         let end = start + (t + 1);
@@ -105,6 +109,7 @@ fn lead_column(a: &mut [f64], n: usize, c: usize, alpha: f64)
     requires { (Square n a.old) × (c + 1 < n) }
     ensures { a.new ≡ half (λ i j. cond (eqb j c && ltb c i) (edge c alpha i) (half_entry a.old i j)) n }
 {
+    // kept as an index loop: down a column of a triangle the places lie further and further apart, so step_by does not fit
     for i in c + 2..n {
         let place = halves::place(i, c);
         a[place] = 0.0;
