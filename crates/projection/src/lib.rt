@@ -133,8 +133,7 @@ fn products<const W: usize, const N: usize>(room: &mut [f64], n: usize)
     let half = halves::place(n, 0);
     let full = half + half;
     rows::fill(&mut room[..half], -0.0);
-    for b in 0..n.div_ceil(TERMS) {
-        let first = TERMS * b;
+    for first in (0..n).step_by(TERMS) {
         let count = TERMS.min(n - first);
         let block = Block { first, count };
         load_rows(&mut w, N, &room[half..full], n, &mut before[..n], &mut here[..n], block);
