@@ -64,11 +64,7 @@ fn load_rows(
 {
     let t = block.first;
     let k = block.count;
-    if t > 0 {
-        halves::copy_row(before, m, t - 1, 0);
-    } else {
-        halves::copy_row(before, m, 0, 0);
-    }
+    halves::copy_row(before, m, t.saturating_sub(1), 0);
     halves::copy_row(here, m, t, 0);
     // kept as an index loop: after chunks_mut a proof knows no number of w
     for s in 0..k {

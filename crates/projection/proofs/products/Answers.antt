@@ -20,7 +20,7 @@ pub loop-first-preserved : goal.loop-first-preserved
 loop-first-preserved g c = let n = c.args.n in
     let first = c.loop-first.first in
     let t : min first n ≡ first = omega (arith, c.loop-first-test.true) in
-    let u : first + c.min-count.result ≡ min (first + 16) n = omega (arith, c.if-n-first-gt16.true, c.min-count.ensures) in
+    let u : first + c.min-count.result ≡ min (first + 16) n = omega (arith, c.min-count.ensures) in
     (search rules, search rules, search rules, length_front c.loop-first.before c.load_rows.new.before n (search rules) ∙ c.loop-first.invariant.3, length_front c.loop-first.here c.load_rows.new.here n (search rules) ∙ c.loop-first.invariant.4, c.add.ensures ∙ terms-more _ _ first c.min-count.result _ (rw t at c.loop-first.invariant.5) ∙ ap (terms_to n _) u)
 
 -- no row is left, or the block that was added was the last
@@ -36,7 +36,7 @@ returns-2 g c = let n = c.args.n in
     let z : c.place-half.result ≡ triangle n = c.place-half.ensures ∙ add-zero _ in
     let e = rw z at c.fill.ensures ∙ ap (table (λ j. minus_zero)) (sym (half-lent _ c.args.room.now c.requires.0.0)) in
     let t : min first n ≡ first = omega (arith, c.loop-first-test.true) in
-    let u : first + c.min-count.result ≡ n = omega (arith, c.loop-first-test.true, c.if-n-first-gt16.false, c.min-count.ensures) in
+    let u : first + c.min-count.result ≡ n = omega (arith, c.loop-first-test.true, c.min-count.ensures) in
     let added = c.add.ensures ∙ terms-more _ _ first c.min-count.result _ (rw t at c.loop-first.invariant.5) ∙ ap (terms_to n _) u in
     rw z at added ∙ terms-same _ c.fill.new.row c.args.room.now e _ ∙ terms-all _ _
 
