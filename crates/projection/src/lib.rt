@@ -17,7 +17,7 @@ ghost use Rattle.columns.specs.Sheet.{Design};
 ghost use Rattle.design.specs.Difference.{difference_at};
 ghost use Rattle.projection.specs.Projection.{weight, hat, residual, product, residual_maker, mam_of};
 
-use columns::SheetSize;
+use columns::{Sheet, SheetSize};
 use design::Matrix;
 use floats::limits::{MAX_COLUMNS, MAX_ROWS};
 
@@ -235,12 +235,13 @@ impl<'a> Fit<'a> {
 
 // M A M in the first n (n + 1) / 2 numbers of the room and M in the next, the lower triangle of each; the rest of the
 // room stays. The answer is the first number of M A M that is not finite.
-pub fn mam(room: &mut [f64], x: &[f64], inv: Matrix, size: SheetSize) -> Option<usize>
-    requires { (matrix_room size.rows ≤ length room.old) × (Design size x.now) }
-    ensures value { result ≡ first_bad (half_of size.rows (mam_of x.now inv size.rows size.columns)) }
-    ensures room_after { room.new ≡ half_of size.rows (mam_of x.now inv size.rows size.columns) ++ (half_of size.rows (residual_maker x.now inv size.rows size.columns) ++ drop (matrix_room size.rows) room.old) }
+pub fn mam(room: &mut [f64], sheet: Sheet, inv: Matrix) -> Option<usize>
+    requires { matrix_room sheet.size.rows ≤ length room.old }
+    ensures value { result ≡ first_bad (half_of sheet.entry.size.rows (mam_of sheet.entry.run.now inv sheet.entry.size.rows sheet.entry.size.columns)) }
+    ensures room_after { room.new ≡ half_of sheet.entry.size.rows (mam_of sheet.entry.run.now inv sheet.entry.size.rows sheet.entry.size.columns) ++ (half_of sheet.entry.size.rows (residual_maker sheet.entry.run.now inv sheet.entry.size.rows sheet.entry.size.columns) ++ drop (matrix_room sheet.entry.size.rows) room.old) }
 {
-    let fit = Fit { x, inv: &inv, size };
+    let size = sheet.size;
+    let fit = Fit { x: sheet.run, inv: &inv, size };
     fit.fill_room(room);
     let searched = halves::place(size.rows, 0);
     floats::search::first_bad(&room[..searched])

@@ -52,7 +52,7 @@ fn spectrum_of(
         Some(inverse) => inverse,
         None => inverse_by_columns(sheet)?,
     };
-    Ok(eigen::ma_eigenvalues(sheet.run, sheet.size, inverse, room, kept)?)
+    Ok(eigen::ma_eigenvalues(sheet, inverse, room, kept)?)
 }
 
 // Row i of the inverse that is given.
