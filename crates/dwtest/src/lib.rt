@@ -81,10 +81,11 @@ fn exact(
     ensures matrix_after { matrix.new ≡ cleared_of true (room_of case.entry.sheet.size.rows) matrix.old }
     ensures parts_after { parts.new ≡ cleared_of true part_room parts.old }
 {
+    let sheet = case.sheet;
     let mut kept = [0.0f64; MAX_ROWS];
-    let spectrum = eigen::ma_eigenvalues(case.sheet, inverse, matrix, &mut kept);
+    let spectrum = eigen::ma_eigenvalues(sheet, inverse, matrix, &mut kept);
     let said = verdict::by_spectrum(spectrum, &kept, case.asked, parts);
-    clear(matrix, matrix_room(case.sheet.size.rows));
+    clear(matrix, matrix_room(sheet.size.rows));
     clear(parts, imhof::PART_ROOM);
     said
 }

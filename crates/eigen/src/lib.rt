@@ -22,6 +22,7 @@ use ql::Swept;
 pub struct Numbers {
     pub count: usize,
     pub work: Tally,
+    // kept as a flag: the count and the work beside it are there whether or not a coupling was left
     pub stuck: bool,
 }
 

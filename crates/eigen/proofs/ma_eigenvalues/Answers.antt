@@ -10,15 +10,6 @@ use Rattle.projection.specs.Projection.{product, mam_of}
 use Rattle.eigen.proofs.SpectrumLaws.{found-some, found-none, matrix-bad, matrix-good}
 use Rattle.eigen.proofs.ma_eigenvalues.Goals as goal
 
-pub mam-requires : goal.mam-requires
-mam-requires c = c.requires.1
-
-pub slice_bounds-delivered-end : goal.slice_bounds-delivered-end
-slice_bounds-delivered-end c = simp (length-take, length-replicate) (omega arith)
-
-pub slice_bounds-delivered-end-2 : goal.slice_bounds-delivered-end-2
-slice_bounds-delivered-end-2 c = simp (length-take, length-replicate) (omega arith)
-
 pub delivered-requires : goal.delivered-requires
 delivered-requires c = let pre = c.requires in
     (omega (arith, c.mam.auto.room, triangle-twice c.args.sheet.size.rows, pre.1), c.args.sheet.design.0, pre.0, simp (length-take, length-replicate) (omega (arith, c.args.sheet.design.0)), simp (length-take, length-replicate) (omega (arith, c.args.sheet.design.0)), pre.2)
