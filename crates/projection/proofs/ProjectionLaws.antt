@@ -21,6 +21,7 @@ use Rattle.rows.specs.Terms.{Reach, sum_from}
 use Rattle.rows.proofs.TermLaws.{from-same, sum-from}
 use Rattle.design.specs.Law.{column_at}
 use Rattle.design.specs.Difference.{difference_before, difference_at}
+use Rattle.projection.specs.Loaded.{Loaded}
 use Rattle.projection.specs.Projection.{weight, hat, residual}
 use Rattle.projection.proofs.IdentityLaws.{identified}
 use Rattle.projection.proofs.TriangleLaws.{half-fill, row_new}
@@ -106,14 +107,11 @@ module _ (n t : ℕ) (m : List Float) where
 
 -- rows t to t + k - 1 of A M, a stride apart: what the first s of them are
 module _ (stride n t : ℕ) (m : List Float) where
-  abbrev pub Loaded : ℕ → List Float → Type 0
-  Loaded k w = (s j : ℕ) → s < k → j < n → w ‼ (s * stride + j) ≡ difference_at (λ r. half_entry m r j) n (t + s)
-
-  pub loaded-none : (w : List Float) → Loaded 0 w
+  pub loaded-none : (w : List Float) → Loaded stride n t m 0 w
   loaded-none w s j h l = absurd (not-suc-le-zero h)
 
-  pub loaded-more : (s : ℕ) (w ys : List Float) → n ≤ stride → s * stride + n ≤ length w → Loaded s w → ys ≡ table (λ j. difference_at (λ r. half_entry m r j) n (t + s)) n
-      → Loaded (s + 1) (with_part (s * stride) (s * stride + n) w ys)
+  pub loaded-more : (s : ℕ) (w ys : List Float) → n ≤ stride → s * stride + n ≤ length w → Loaded stride n t m s w → ys ≡ table (λ j. difference_at (λ r. half_entry m r j) n (t + s)) n
+      → Loaded stride n t m (s + 1) (with_part (s * stride) (s * stride + n) w ys)
   loaded-more s w ys f b old e r j h l =
       ⊎_elim (λ (d : r < s). part-before w ys {a = s * stride} {e = s * stride + n} (omega arith) b size (r * stride + j) (omega (arith, row_in stride d)) ∙ old r j d l)
       (λ (d : s ≤ r). let z : r ≡ s = omega arith in

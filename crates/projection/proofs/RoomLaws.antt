@@ -22,9 +22,9 @@ use Rattle.floats.proofs.TableLaws.{length-table, get_d-table}
 use Rattle.floats.proofs.HalfLaws.{half-low, length-half, half-of, half-same, part-half, rows_to, length-rows, rows_none, rows_all, triangle-twice, half-symmetric}
 use Rattle.rows.specs.Terms.{sum_from}
 use Rattle.rows.proofs.TermLaws.{from-same}
+use Rattle.projection.specs.Loaded.{Loaded}
 use Rattle.projection.specs.Projection.{residual, product, residual_maker, mam_of}
 use Rattle.projection.proofs.TriangleLaws.{row_new}
-use Rattle.projection.proofs.ProjectionLaws.{Loaded}
 use Rattle.projection.proofs.ProductLaws.{term, product_to, length-product, product-none, product-more, mam-of}
 
 -- a new front, and what stands behind it

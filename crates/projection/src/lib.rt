@@ -15,6 +15,7 @@ ghost use Rattle.floats.specs.Limits.{max_rows, max_columns, Square, Squares, ma
 ghost use Rattle.rows.specs.Terms.{sum_from};
 ghost use Rattle.columns.specs.Sheet.{Design};
 ghost use Rattle.design.specs.Difference.{difference_at};
+ghost use Rattle.projection.specs.Loaded.{Loaded};
 ghost use Rattle.projection.specs.Projection.{weight, hat, residual, product, residual_maker, mam_of};
 
 use columns::{Sheet, SheetSize};
@@ -59,7 +60,7 @@ fn load_rows(
     block: Block,
 )
     requires { (n ≤ stride) × (block.count * stride ≤ length w.old) × (Square n m.now) × (block.first < n) × (block.first + block.count ≤ n) × (length before.old ≡ n) × (length here.old ≡ n) }
-    ensures { (s j : ℕ) → s < block.count → j < n → w.new ‼ (s * stride + j) ≡ difference_at (λ r. half_entry m.now r j) n (block.first + s) }
+    ensures { Loaded stride n block.first m.now block.count w.new }
 {
     let t = block.first;
     let k = block.count;
@@ -77,78 +78,68 @@ fn load_rows(
     }
 }
 
-// Adds a block of terms to row i of the first half of the room, up to the diagonal: the rows in `w`, each times its
-// number of row i of M, which is in the second half.
-fn add_block_to_row(room: &mut [f64], w: &[f64], stride: usize, n: usize, block: Block, i: usize)
-    requires { (Squares n room.old) × (n ≤ stride) × (block.count * stride ≤ length w.now) × (block.first < n) × (block.first + block.count ≤ n) × (block.count ≤ 16) × (i < n) }
-    ensures { room.new ≡ half (λ r c. cond (eqb r i) (sum_from (half_entry (take (triangle n) room.old) r c) block.count (λ s. w.now ‼ (s * stride + c) ⊗ half_entry (part (triangle n) (triangle n + triangle n) room.old) i (block.first + s))) (half_entry (take (triangle n) room.old) r c)) n ++ drop (triangle n) room.old }
-{
-    let k = block.count;
-    let half = halves::place(n, 0);
-    let full = half + half;
-    let mut u = [0.0f64; 16];
-    halves::copy_row(&mut u[..k], &room[half..full], i, block.first);
-    matrix::add_to_row(&mut room[..half], i, w, stride, &u[..k]);
-}
-
-// Adds a block of terms to every entry of M A M in the first half of the room, M being in the second; `w` is room for
-// its rows of A M, `stride` apart, and `before` and `here` for two rows of M.
-fn add_block(
-    room: &mut [f64],
-    w: &mut [f64],
+// The rows of A M that a block of terms takes, in `w`, each `stride` on from the one before; M has n rows.
+#[derive(Clone, Copy)]
+struct Rows<'a> {
+    w: &'a [f64],
     stride: usize,
     n: usize,
     block: Block,
-    before: &mut [f64],
-    here: &mut [f64],
-)
-    requires { (Squares n room.old) × (n ≤ stride) × (block.count * stride ≤ length w.old) × (block.first < n) × (block.first + block.count ≤ n) × (block.count ≤ 16) × (length before.old ≡ n) × (length here.old ≡ n) }
-    ensures { room.new ≡ half (λ i j. sum_from (half_entry (take (triangle n) room.old) i j) block.count (λ s. half_entry (part (triangle n) (triangle n + triangle n) room.old) i (block.first + s) ⊗ difference_at (λ r. half_entry (part (triangle n) (triangle n + triangle n) room.old) r j) n (block.first + s))) n ++ drop (triangle n) room.old }
-{
-    let half = halves::place(n, 0);
-    let full = half + half;
-    load_rows(w, stride, &room[half..full], n, before, here, block);
-    for i in 0..n {
-        add_block_to_row(room, w, stride, n, block, i);
+    ghost within: { (n ≤ stride) × (block.count * stride ≤ length w.now) × (block.first + block.count ≤ n) × (block.count ≤ 16) },
+}
+
+impl<'a> Rows<'a> {
+    // Adds the terms to row i of the first half of the room, up to the diagonal: the rows, each times its number of row
+    // i of M, which is in the second half.
+    fn add_to_row(&self, room: &mut [f64], i: usize)
+        requires { (Squares self.now.n room.old) × (i < self.now.n) }
+        ensures { room.new ≡ half (λ r c. cond (eqb r i) (sum_from (half_entry (take (triangle self.now.n) room.old) r c) self.now.block.count (λ s. self.now.w.now ‼ (s * self.now.stride + c) ⊗ half_entry (part (triangle self.now.n) (triangle self.now.n + triangle self.now.n) room.old) i (self.now.block.first + s))) (half_entry (take (triangle self.now.n) room.old) r c)) self.now.n ++ drop (triangle self.now.n) room.old }
+    {
+        let k = self.block.count;
+        let half = halves::place(self.n, 0);
+        let full = half + half;
+        let mut u = [0.0f64; 16];
+        halves::copy_row(&mut u[..k], &room[half..full], i, self.block.first);
+        matrix::add_to_row(&mut room[..half], i, self.w, self.stride, &u[..k]);
+    }
+
+    // Adds the terms to every entry of M A M in the first half of the room, M being in the second.
+    fn add(&self, room: &mut [f64])
+        requires { (Squares self.now.n room.old) × (Loaded self.now.stride self.now.n self.now.block.first (part (triangle self.now.n) (triangle self.now.n + triangle self.now.n) room.old) self.now.block.count self.now.w.now) }
+        ensures { room.new ≡ half (λ i j. sum_from (half_entry (take (triangle self.now.n) room.old) i j) self.now.block.count (λ s. half_entry (part (triangle self.now.n) (triangle self.now.n + triangle self.now.n) room.old) i (self.now.block.first + s) ⊗ difference_at (λ r. half_entry (part (triangle self.now.n) (triangle self.now.n + triangle self.now.n) room.old) r j) self.now.n (self.now.block.first + s))) self.now.n ++ drop (triangle self.now.n) room.old }
+    {
+        // kept as an index loop: i is a row of M as well as of M A M, and each row of a triangle is a number longer than the one before
+        for i in 0..self.n {
+            self.add_to_row(room, i);
+        }
     }
 }
 
 // How many terms are added to every entry before the next.
 const TERMS: usize = 16;
 
-// M A M into the first half of the room, from M in the second; `w` is room for sixteen rows, `stride` apart, and `before` and `here` for two rows of M.
-fn products(
-    room: &mut [f64],
-    w: &mut [f64],
-    stride: usize,
-    n: usize,
-    before: &mut [f64],
-    here: &mut [f64],
-)
-    requires { (Squares n room.old) × (n ≤ stride) × (16 * stride ≤ length w.old) × (n ≤ length before.old) × (n ≤ length here.old) }
-    ensures { room.new ≡ half (λ i j. sum_of n (λ t. half_entry (part (triangle n) (triangle n + triangle n) room.old) i t ⊗ difference_at (λ s. half_entry (part (triangle n) (triangle n + triangle n) room.old) s j) n t)) n ++ drop (triangle n) room.old }
-{
-    let half = halves::place(n, 0);
-    rows::fill(&mut room[..half], -0.0);
-    for b in 0..n.div_ceil(TERMS) {
-        let first = TERMS * b;
-        let count = TERMS.min(n - first);
-        let block = Block { first, count };
-        add_block(room, w, stride, n, block, &mut before[..n], &mut here[..n]);
-    }
-}
-
-// The same, with room of its own: of W numbers for the sixteen rows, which stand N apart, and of N for each of the two.
-// To clear much of it costs a small matrix more than the products do; at the stride of the largest `rows::add_terms`
-// takes sixteen terms a pass.
-fn products_within<const W: usize, const N: usize>(room: &mut [f64], n: usize)
+// M A M into the first half of the room, from M in the second. It has room of its own: of W numbers for the sixteen rows
+// of a block, which stand N apart, and of N for each of two rows of M. To clear much of it costs a small matrix more than
+// the products do; at the stride of the largest `rows::add_terms` takes sixteen terms a pass.
+// kept as functions of the room and n: methods of a struct over a room that they change would each have to say that the
+// struct holds the same room and n still, more than the one fact of them
+fn products<const W: usize, const N: usize>(room: &mut [f64], n: usize)
     requires { (Squares n room.old) × (n ≤ N) × (16 * N ≤ W) × (W ≤ 16 * max_rows) }
     ensures { room.new ≡ half (λ i j. sum_of n (λ t. half_entry (part (triangle n) (triangle n + triangle n) room.old) i t ⊗ difference_at (λ s. half_entry (part (triangle n) (triangle n + triangle n) room.old) s j) n t)) n ++ drop (triangle n) room.old }
 {
     let mut w = [0.0f64; W];
     let mut before = [0.0f64; N];
     let mut here = [0.0f64; N];
-    products(room, &mut w, N, n, &mut before, &mut here);
+    let half = halves::place(n, 0);
+    let full = half + half;
+    rows::fill(&mut room[..half], -0.0);
+    for b in 0..n.div_ceil(TERMS) {
+        let first = TERMS * b;
+        let count = TERMS.min(n - first);
+        let block = Block { first, count };
+        load_rows(&mut w, N, &room[half..full], n, &mut before[..n], &mut here[..n], block);
+        Rows { w: &w, stride: N, n, block }.add(room);
+    }
 }
 
 // Up to how many rows count as few, and the room for sixteen rows of few or of any.
@@ -191,13 +182,17 @@ impl<'a> Fit<'a> {
         rows::update(u, |c, _| self.weight(i, c));
     }
 
-    // X (X'X)^-1 X'; `u` is room for a row of weights.
-    fn hat(&self, m: &mut [f64], u: &mut [f64])
-        requires { (Square self.now.size.rows m.old) × (length u.old ≡ self.now.size.columns) }
+    // X (X'X)^-1 X'.
+    fn hat(&self, m: &mut [f64])
+        requires { Square self.now.size.rows m.old }
         ensures { m.new ≡ half (hat self.now.x.now self.now.inv.now self.now.size.rows self.now.size.columns) self.now.size.rows }
     {
         let n = self.size.rows;
+        let k = self.size.columns;
+        let mut row = [0.0f64; MAX_COLUMNS];
+        let u = &mut row[..k];
         rows::fill(m, -0.0);
+        // kept as an index loop: each row of a triangle is a number longer than the one before, so chunks do not fit
         for i in 0..n {
             self.weights(u, i);
             matrix::add_to_row(m, i, self.x, n, u);
@@ -205,11 +200,11 @@ impl<'a> Fit<'a> {
     }
 
     // M = I - X (X'X)^-1 X'.
-    fn residual_maker(&self, m: &mut [f64], u: &mut [f64])
-        requires { (Square self.now.size.rows m.old) × (length u.old ≡ self.now.size.columns) }
+    fn residual_maker(&self, m: &mut [f64])
+        requires { Square self.now.size.rows m.old }
         ensures { m.new ≡ half (residual self.now.x.now self.now.inv.now self.now.size.rows self.now.size.columns) self.now.size.rows }
     {
-        self.hat(m, u);
+        self.hat(m);
         matrix::negate(m);
         matrix::add_identity(m, self.size.rows);
     }
@@ -220,15 +215,13 @@ impl<'a> Fit<'a> {
         ensures { room.new ≡ half (product self.now.x.now self.now.inv.now self.now.size.rows self.now.size.columns) self.now.size.rows ++ (half (residual self.now.x.now self.now.inv.now self.now.size.rows self.now.size.columns) self.now.size.rows ++ drop (triangle self.now.size.rows + triangle self.now.size.rows) room.old) }
     {
         let n = self.size.rows;
-        let k = self.size.columns;
         let half = halves::place(n, 0);
         let full = half + half;
-        let mut u = [0.0f64; MAX_COLUMNS];
-        self.residual_maker(&mut room[half..full], &mut u[..k]);
+        self.residual_maker(&mut room[half..full]);
         if n <= FEW {
-            products_within::<FEW_WIDE, FEW>(room, n);
+            products::<FEW_WIDE, FEW>(room, n);
         } else {
-            products_within::<ANY_WIDE, MAX_ROWS>(room, n);
+            products::<ANY_WIDE, MAX_ROWS>(room, n);
         }
     }
 }

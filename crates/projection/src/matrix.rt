@@ -1,4 +1,4 @@
-// Symmetric matrices of n rows, of which a lent run holds the lower triangle.
+// Symmetric matrices of n rows, of which a lent run holds the lower triangle. n stands beside the run, whose length is n (n + 1) / 2.
 ghost use Rattle.std.specs.Prelude.{◌≡◌, cond, ◌+◌, ◌*◌, ◌≤◌, ◌<◌, eqb, length};
 ghost use Rattle.std.specs.Float.Ieee.{neg};
 ghost use Rattle.floats.specs.Words.{◌⊕◌, ◌⊖◌, ◌⊗◌, ◌‼◌, plus_zero, one};
@@ -30,6 +30,7 @@ pub fn add_identity(a: &mut [f64], n: usize)
     requires { Square n a.old }
     ensures { a.new ≡ half (λ i j. cond (eqb i j) (one ⊕ half_entry a.old i j) (half_entry a.old i j)) n }
 {
+    // kept as an index loop: down the diagonal of a triangle the places lie further and further apart, so step_by does not fit
     for i in 0..n {
         let p = halves::place(i, i);
         a[p] = 1.0 + a[p];

@@ -26,9 +26,10 @@ use Rattle.tridiagonal.specs.Reflection.{below, column_of, image_of}
 
 -- ---- column c
 
-pub column-of : (n c : ℕ) (a : List Float) → c + 1 < n → table (λ s. half_entry a c (c + 1 + s)) (below n c) ≡ column_of n c (whole n a)
+-- row c of the whole matrix, from its diagonal on
+pub column-of : (n c : ℕ) (a v : List Float) {m : ℕ} → c + 1 < n → m ≡ below n c → v ≡ table (λ s. half_entry a c (c + 1 + s)) m → v ≡ column_of n c (whole n a)
 unfolding column_of
-column-of n c a h = table_same _ _ (below n c) (λ t k. half-swap a c (c + 1 + t) ∙ sym (entry_whole n a (c + 1 + t) c (omega arith) (omega arith)))
+column-of n c a v h l e = rw (e, l) (table_same _ _ (below n c) (λ t k. half-swap a c (c + 1 + t) ∙ sym (entry_whole n a (c + 1 + t) c (omega arith) (omega arith))))
 
 -- ---- rows of a half, one below the other
 

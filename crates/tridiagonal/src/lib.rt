@@ -13,6 +13,7 @@ mod vectors;
 use floats::limits::MAX_ROWS;
 
 // The symmetric matrix of n rows in `a`, made tridiagonal.
+// kept as a run and n: docs/PROMISES.md names this function and bands, so both ask what they asked
 pub fn tridiagonalize(a: &mut [f64], n: usize)
     requires { Square n a.old }
     ensures { a.new ≡ half_of n (tridiagonal_of n (whole n a.old)) }
@@ -22,29 +23,40 @@ pub fn tridiagonalize(a: &mut [f64], n: usize)
     }
     let mut v = [0.0f64; MAX_ROWS];
     let mut p = [0.0f64; MAX_ROWS];
+    // kept as an index loop: c is a column of the whole matrix, and no run holds the columns
     for c in 0..n - 2 {
         let below = n - (c + 1);
         reflection::reflect(a, n, c, &mut v[..below], &mut p[..below]);
     }
 }
 
-// Entry (i, i).
-fn diagonal(a: &[f64], n: usize, i: usize) -> f64
-    requires { (Square n a.now) × (i < n) }
-    ensures { result ≡ entry n (whole n a.now) i i }
-{
-    a[halves::place(i, i)]
+// The lower triangle of a symmetric matrix of n rows.
+#[derive(Clone, Copy)]
+struct Triangle<'a> {
+    a: &'a [f64],
+    n: usize,
+    ghost square: { Square n a.now },
 }
 
-// What couples row i and the next.
-fn coupling(a: &[f64], n: usize, i: usize) -> f64
-    requires { (Square n a.now) × (i < n) }
-    ensures { result ≡ coupling n (whole n a.now) i }
-{
-    if i + 1 < n {
-        a[halves::place(i + 1, i)]
-    } else {
-        0.0
+impl<'a> Triangle<'a> {
+    // Entry (i, i).
+    fn diagonal(&self, i: usize) -> f64
+        requires { i < self.now.n }
+        ensures { result ≡ entry self.now.n (whole self.now.n self.now.a.now) i i }
+    {
+        self.a[halves::place(i, i)]
+    }
+
+    // What couples row i and the next.
+    fn coupling(&self, i: usize) -> f64
+        requires { i < self.now.n }
+        ensures { result ≡ coupling self.now.n (whole self.now.n self.now.a.now) i }
+    {
+        if i + 1 < self.n {
+            self.a[halves::place(i + 1, i)]
+        } else {
+            0.0
+        }
     }
 }
 
@@ -54,6 +66,7 @@ pub fn bands(a: &[f64], n: usize, d: &mut [f64], e: &mut [f64])
     ensures d_after { d.new ≡ diagonal_of n (whole n a.now) ++ drop n d.old }
     ensures e_after { e.new ≡ couplings_of n (whole n a.now) ++ drop n e.old }
 {
-    rows::update(&mut d[..n], |i, _| diagonal(a, n, i));
-    rows::update(&mut e[..n], |i, _| coupling(a, n, i));
+    let lower = Triangle { a, n };
+    rows::update(&mut d[..n], |i, _| lower.diagonal(i));
+    rows::update(&mut e[..n], |i, _| lower.coupling(i));
 }

@@ -1,5 +1,6 @@
 -- After s turns the first s rows stand there, a stride apart, and the next row and the one before it are in hand, if there is a next. Assumes nothing.
-use Rattle.projection.proofs.ProjectionLaws.{row_at, Loaded}
+use Rattle.projection.specs.Loaded.{Loaded}
+use Rattle.projection.proofs.ProjectionLaws.{row_at}
 use Prim.Native.Nat.{◌+◌, ◌≤◌, ◌<◌, ◌-◌}
 use mathlib.Core.Path.{◌≡◌}
 use lib.ListN.{length}

@@ -7,4 +7,4 @@ use lib.ListN.{length}
 use Rattle.projection.proofs.products.Given as goal
 
 abbrev pub invariant-loop-b : goal.invariant-loop-b
-invariant-loop-b l = (triangle l.n + triangle l.n ≤ length l.room) × (l.room ≡ terms_to l.n l.initial.room (min (16 * l.b) l.n))
+invariant-loop-b g l = (length l.room ≡ length l.initial.room) × (triangle l.n + triangle l.n ≤ length l.room) × (length l.w ≡ g.row.W) × (length l.before ≡ g.row.N) × (length l.here ≡ g.row.N) × (l.room ≡ terms_to l.n l.initial.room (min (16 * l.b) l.n))

@@ -10,7 +10,7 @@ use borrow.Author.Rules.{rules}
 use Rattle.projection.proofs.Fit.hat.Goals as goal
 
 pub loop-i-init : goal.loop-i-init
-loop-i-init c = let args = c.args in (omega arith, search rules, search rules, c.fill.ensures ∙ rw c.requires.0.0 (hat-none args.self.now.x.now args.self.now.inv.now args.self.now.size.rows args.self.now.size.columns))
+loop-i-init c = let args = c.args in (omega arith, search rules, search rules, c.fill.ensures ∙ rw c.requires.0 (hat-none args.self.now.x.now args.self.now.inv.now args.self.now.size.rows args.self.now.size.columns))
 
 pub add_to_row-requires : goal.add_to_row-requires
 add_to_row-requires c = let args = c.args in

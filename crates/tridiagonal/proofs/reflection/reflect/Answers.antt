@@ -1,33 +1,27 @@
--- The three ways a reflection goes. Assumes nothing.
+-- The three ways a reflection goes: two leave the matrix, and in the third block and column are stored one after the other. Assumes nothing.
 use native.Mathlib.Omega.{arith}
+use mathlib.Core.Path.{◌≡◌, ◌∙◌}
 use lib.ListN.{length-set}
-use Rattle.tridiagonal.proofs.UpdateLaws.{still, flat, turned}
+use Rattle.floats.specs.Matrix.{whole}
 use Rattle.floats.specs.Words.{plus_zero}
+use Rattle.floats.proofs.HalfLaws.{triangle-up}
+use Rattle.tridiagonal.specs.Reflection.{column_of}
+use Rattle.tridiagonal.proofs.ImageLaws.{column-of}
+use Rattle.tridiagonal.proofs.UpdateLaws.{still, flat, turned, turn-of}
 use borrow.Author.Rules.{rules}
 use Rattle.tridiagonal.proofs.reflection.reflect.Goals as goal
 
+pub copy_row-requires : goal.copy_row-requires
+copy_row-requires c = let pre = c.requires in
+    (search rules, search rules, rw pre.0.0 (triangle-up (search rules)), rw pre.0.0 (triangle-up (search rules)))
+
 pub returns-then-norm : goal.returns-then-norm
-returns-then-norm c = still _ _ _ _ _ _ plus_zero c.requires.0.0 c.copy_column.ensures c.sum_squares.ensures c.sqrt-norm.ensures c.if-norm.true
+returns-then-norm c = still _ _ _ _ _ _ plus_zero c.requires.0.0 (column-of _ _ _ _ c.requires.1 c.requires.2 c.copy_row.ensures) c.sum_squares.ensures c.sqrt-norm.ensures c.if-norm.true
 
 pub returns-then-vv : goal.returns-then-vv
-returns-then-vv c = let pre = c.requires in
-    let copy-column = c.copy_column in
-    let sum-squares = c.sum_squares in
-    let sqrt = c.sqrt-norm in
-    let if1 = c.if-norm in
-    let signed = c.signed-alpha in
-    flat _ _ _ _ _ _ _ pre.0.0 copy-column.ensures sum-squares.ensures sqrt.ensures if1.false signed.ensures _ c.sum_squares-vv.ensures c.if-vv.true
-
-pub turn-requires : goal.turn-requires
-turn-requires c = (search rules, search rules, simp length-set (omega arith), search rules)
+returns-then-vv c = flat _ _ _ _ _ _ _ c.requires.0.0 (column-of _ _ _ _ c.requires.1 c.requires.2 c.copy_row.ensures) c.sum_squares.ensures c.sqrt-norm.ensures c.if-norm.false c.signed-alpha.ensures _ c.sum_squares-vv.ensures c.if-vv.true
 
 pub returns : goal.returns
-returns c = let pre = c.requires in
-    let copy-column = c.copy_column in
-    let sum-squares = c.sum_squares in
-    let sqrt = c.sqrt-norm in
-    let if1 = c.if-norm in
-    let signed = c.signed-alpha in
-    let sum-squares2 = c.sum_squares-vv in
-    let if2 = c.if-vv in
-    rw c.turn.ensures (turned _ _ _ _ _ _ _ pre.0.0 copy-column.ensures sum-squares.ensures sqrt.ensures if1.false signed.ensures _ sum-squares2.ensures if2.false)
+returns c = let args = c.args in
+    rw (c.lead_column.ensures, turn-of args.n args.c args.a.now _ _ _ c.signed-alpha.result c.update.ensures, c.correct.ensures, c.image.ensures)
+    (turned _ _ _ _ _ _ _ c.requires.0.0 (column-of _ _ _ _ c.requires.1 c.requires.2 c.copy_row.ensures) c.sum_squares.ensures c.sqrt-norm.ensures c.if-norm.false c.signed-alpha.ensures _ c.sum_squares-vv.ensures c.if-vv.false)

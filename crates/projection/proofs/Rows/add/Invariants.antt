@@ -3,7 +3,7 @@ use Rattle.projection.proofs.RoomLaws.{block_to}
 use Prim.Native.Nat.{◌≤◌}
 use mathlib.Core.Path.{◌≡◌}
 use lib.ListN.{length}
-use Rattle.projection.proofs.add_block.Given as goal
+use Rattle.projection.proofs.Rows.add.Given as goal
 
 abbrev pub invariant-loop-i : goal.invariant-loop-i
-invariant-loop-i l = (l.i ≤ l.n) × (length l.room ≡ length l.initial.room) × (l.room ≡ block_to l.n l.block.first l.block.count l.initial.room l.i)
+invariant-loop-i l = (l.i ≤ l.self.n) × (length l.room ≡ length l.initial.room) × (l.room ≡ block_to l.self.n l.self.block.first l.self.block.count l.initial.room l.i)
