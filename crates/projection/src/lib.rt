@@ -63,11 +63,7 @@ fn load_rows(
 {
     let t = block.first;
     let k = block.count;
-    if t > 0 {
-        halves::copy_row(before, m, t - 1, 0);
-    } else {
-        halves::copy_row(before, m, 0, 0);
-    }
+    halves::copy_row(before, m, t.saturating_sub(1), 0);
     halves::copy_row(here, m, t, 0);
     // kept as an index loop: after chunks_mut a proof knows no number of w
     for s in 0..k {
@@ -132,8 +128,7 @@ fn products<const W: usize, const N: usize>(room: &mut [f64], n: usize)
     let half = halves::place(n, 0);
     let full = half + half;
     rows::fill(&mut room[..half], -0.0);
-    for b in 0..n.div_ceil(TERMS) {
-        let first = TERMS * b;
+    for first in (0..n).step_by(TERMS) {
         let count = TERMS.min(n - first);
         let block = Block { first, count };
         load_rows(

@@ -8,7 +8,6 @@ use mathlib.Core.Path.{◌≡◌, refl, ap, ◌∙◌}
 use lib.ListN.{length}
 use borrow.Author.Rules.{rules}
 use Rattle.projection.proofs.load_rows.Goals as goal
-use Rattle.projection.proofs.load_rows.Goals.{then-t-gt0, else-t-gt0}
 
 -- row s ends within w
 row : (c : goal.In-loop-s) → let args = c.args in c.loop-s.s * args.stride + args.stride ≤ args.block.count * args.stride
@@ -17,20 +16,14 @@ row c = row_in _ c.loop-s-test.true
 pub copy_row-requires : goal.copy_row-requires
 copy_row-requires c = let args = c.args in let pre = c.requires in row_fits args.m.now args.before.now args.n _ pre.2.0 pre.2.1 (omega (arith, pre.3)) pre.5
 
-pub copy_row-requires-else-t-gt0 : goal.copy_row-requires-else-t-gt0
-copy_row-requires-else-t-gt0 c = let args = c.args in let pre = c.requires in row_fits args.m.now args.before.now args.n _ pre.2.0 pre.2.1 (omega (arith, pre.3)) pre.5
-
 pub copy_row-requires-2 : goal.copy_row-requires-2
 copy_row-requires-2 c = let args = c.args in let pre = c.requires in row_fits args.m.now args.here.now args.n _ pre.2.0 pre.2.1 pre.3 pre.6
 
+-- row 0 has none before it, and is taken for that
 pub loop-s-init : goal.loop-s-init
 loop-s-init c = let args = c.args in
     let pre = c.requires in
-    -- where the ways of the test meet; row 0 has none before it
-    let before : c.if-t-gt0.before ≡ row_at args.m.now args.n (args.block.first - 1) = elim c.if-t-gt0.branch [
-      | then-t-gt0 w ↦ w.before-is ∙ w.copy_row.ensures ∙ row_copied _ _ _ _ pre.5
-      | else-t-gt0 w ↦ let z : 0 ≡ args.block.first - 1 = omega (arith, w.if-t-gt0.false) in w.before-is ∙ w.copy_row-else-t-gt0.ensures ∙ row_copied _ _ _ _ pre.5 ∙ rw z
-    ] in
+    let before = rw c.saturating_sub.ensures at (c.copy_row.ensures ∙ row_copied args.m.now args.n _ _ pre.5) in
     let here = c.copy_row-2.ensures ∙ row_copied args.m.now args.n args.block.first _ pre.6 in
     let z : args.block.first + 0 ≡ args.block.first = omega arith in
     (omega arith, refl, ap length before ∙ length-table _ _, ap length here ∙ length-table _ _, (λ h. rw z (before, here)), loaded-none args.stride args.n args.block.first args.m.now args.w.now)
