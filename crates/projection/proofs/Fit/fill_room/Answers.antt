@@ -1,7 +1,7 @@
 -- M fills the second half, and M A M is worked out from it. Assumes nothing.
 use native.Mathlib.Nat.{add-zero}
 use native.Mathlib.Omega.{arith}
-use mathlib.Core.Path.{◌≡◌, refl, sym, ◌∙◌}
+use mathlib.Core.Path.{◌≡◌, refl, ◌∙◌}
 use Rattle.floats.specs.Tables.{triangle}
 use Rattle.projection.proofs.RoomLaws.{second-lent, room_of_lem}
 use Rattle.projection.proofs.Fit.fill_room.Goals as goal
