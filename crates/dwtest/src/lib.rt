@@ -83,7 +83,7 @@ fn exact(
 {
     let sheet = case.sheet;
     let mut kept = [0.0f64; MAX_ROWS];
-    let spectrum = eigen::ma_eigenvalues(sheet.run, sheet.size, inverse, matrix, &mut kept);
+    let spectrum = eigen::ma_eigenvalues(sheet, inverse, matrix, &mut kept);
     let said = verdict::by_spectrum(spectrum, &kept, case.asked, parts);
     clear(matrix, matrix_room(sheet.size.rows));
     clear(parts, imhof::PART_ROOM);

@@ -5,14 +5,13 @@ ghost use Rattle.std.specs.Prelude.{◌≡◌, ◌++◌, ◌≤◌, length, take
 ghost use Rattle.floats.specs.Tables.{triangle};
 ghost use Rattle.floats.specs.Matrix.{whole, half_of};
 ghost use Rattle.floats.specs.Limits.{max_rows, matrix_room};
-ghost use Rattle.columns.specs.Sheet.{Design};
 ghost use Rattle.projection.specs.Projection.{residual_maker};
 ghost use Rattle.tridiagonal.specs.Reflection.{tridiagonal_of};
 ghost use Rattle.eigen.specs.Spectrum.{delivered_of, delivered_numbers, spectrum_of, kept_numbers, front_of};
 
 pub mod order;
 
-use columns::SheetSize;
+use columns::{Sheet, SheetSize};
 use design::Matrix;
 use floats::limits::MAX_ROWS;
 use floats::tally::Tally;
@@ -23,6 +22,7 @@ use ql::Swept;
 pub struct Numbers {
     pub count: usize,
     pub work: Tally,
+    // kept as a flag: the count and the work beside it are there whether or not a coupling was left
     pub stuck: bool,
 }
 
@@ -63,22 +63,21 @@ fn delivered(
 
 // The kept eigenvalues into the front of `kept`, how many, and the sweeps. The first n (n + 1) numbers of the room are worked in.
 pub fn ma_eigenvalues(
-    columns: &[f64],
-    size: SheetSize,
+    sheet: Sheet,
     inverse: Matrix,
     room: &mut [f64],
     kept: &mut [f64],
 ) -> Result<Numbers, SpectrumError>
-    requires { (Design size columns.now) × (size.columns ≤ size.rows) × (matrix_room size.rows ≤ length room.old) × (size.rows ≤ length kept.old) }
-    ensures value { result ≡ spectrum_of columns.now inverse size.rows size.columns }
-    ensures kept_after { kept.new ≡ kept_numbers columns.now inverse size.rows size.columns ++ drop (length (kept_numbers columns.now inverse size.rows size.columns)) kept.old }
-    ensures room_after { room.new ≡ front_of columns.now inverse size.rows size.columns ++ (half_of size.rows (residual_maker columns.now inverse size.rows size.columns) ++ drop (matrix_room size.rows) room.old) }
+    requires { (sheet.size.columns ≤ sheet.size.rows) × (matrix_room sheet.size.rows ≤ length room.old) × (sheet.size.rows ≤ length kept.old) }
+    ensures value { result ≡ spectrum_of sheet.entry.run.now inverse sheet.entry.size.rows sheet.entry.size.columns }
+    ensures kept_after { kept.new ≡ kept_numbers sheet.entry.run.now inverse sheet.entry.size.rows sheet.entry.size.columns ++ drop (length (kept_numbers sheet.entry.run.now inverse sheet.entry.size.rows sheet.entry.size.columns)) kept.old }
+    ensures room_after { room.new ≡ front_of sheet.entry.run.now inverse sheet.entry.size.rows sheet.entry.size.columns ++ (half_of sheet.entry.size.rows (residual_maker sheet.entry.run.now inverse sheet.entry.size.rows sheet.entry.size.columns) ++ drop (matrix_room sheet.entry.size.rows) room.old) }
 {
-    let n = size.rows;
-    if projection::mam(room, columns, inverse, size).is_some() {
+    let n = sheet.size.rows;
+    if projection::mam(room, sheet, inverse).is_some() {
         return Err(SpectrumError::MatrixNotFinite);
     }
     let mut d = [0.0f64; MAX_ROWS];
     let mut e = [0.0f64; MAX_ROWS];
-    delivered(room, size, &mut d[..n], &mut e[..n], kept)
+    delivered(room, sheet.size, &mut d[..n], &mut e[..n], kept)
 }

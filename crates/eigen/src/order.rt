@@ -25,10 +25,12 @@ fn put_in(d: &mut [f64], i: usize)
 }
 
 // The first n numbers of d, in falling order; those beyond stay.
+// kept with n beside d: a longer run may be lent, and the clause says that what stands beyond n stays
 pub fn order(d: &mut [f64], n: usize)
     requires { n ≤ length d.old }
     ensures { d.new ≡ falling d.old n ++ drop n d.old }
 {
+    // kept as an index loop: i is how many numbers fall already, and no element is read here
     for i in 0..n {
         put_in(d, i);
     }
@@ -45,6 +47,7 @@ pub fn keep(d: &[f64], m: usize, kept: &mut [f64]) -> usize
 {
     let mut count = 0usize;
     for x in &d[..m] {
+        // kept as a count by hand: it is the next free place, which a pass over x leaves where it was
         if *x > KEPT_ABOVE {
             kept[count] = *x;
             count += 1;

@@ -13,12 +13,11 @@ ghost use Rattle.floats.specs.Tables.{table, triangle, half, part};
 ghost use Rattle.floats.specs.Matrix.{half_entry, half_of};
 ghost use Rattle.floats.specs.Limits.{max_rows, max_columns, Square, Squares, matrix_room};
 ghost use Rattle.rows.specs.Terms.{sum_from};
-ghost use Rattle.columns.specs.Sheet.{Design};
 ghost use Rattle.design.specs.Difference.{difference_at};
 ghost use Rattle.projection.specs.Loaded.{Loaded};
 ghost use Rattle.projection.specs.Projection.{weight, hat, residual, product, residual_maker, mam_of};
 
-use columns::SheetSize;
+use columns::Sheet;
 use design::Matrix;
 use floats::limits::{MAX_COLUMNS, MAX_ROWS};
 
@@ -132,8 +131,22 @@ fn products<const W: usize, const N: usize>(room: &mut [f64], n: usize)
     for first in (0..n).step_by(TERMS) {
         let count = TERMS.min(n - first);
         let block = Block { first, count };
-        load_rows(&mut w, N, &room[half..full], n, &mut before[..n], &mut here[..n], block);
-        Rows { w: &w, stride: N, n, block }.add(room);
+        load_rows(
+            &mut w,
+            N,
+            &room[half..full],
+            n,
+            &mut before[..n],
+            &mut here[..n],
+            block,
+        );
+        Rows {
+            w: &w,
+            stride: N,
+            n,
+            block,
+        }
+        .add(room);
     }
 }
 
@@ -144,72 +157,70 @@ const FEW_WIDE: usize = TERMS * FEW;
 
 const ANY_WIDE: usize = TERMS * MAX_ROWS;
 
-// What M is made of: the columns of a sheet, X, and (X'X)^-1.
+// What M is made of: a sheet, whose columns are X, and (X'X)^-1.
 #[derive(Clone, Copy)]
 struct Fit<'a> {
-    x: &'a [f64],
+    sheet: Sheet<'a>,
     inv: &'a Matrix,
-    size: SheetSize,
-    ghost design: { Design size x.now },
 }
 
 impl<'a> Fit<'a> {
     // Entry (t, c) of X (X'X)^-1.
     fn weight(&self, t: usize, c: usize) -> f64
-        requires { (t < self.now.size.rows) × (c < max_columns) }
-        ensures { result ≡ weight self.now.x.now self.now.inv.now self.now.size.rows self.now.size.columns t c }
+        requires { (t < self.now.sheet.size.rows) × (c < max_columns) }
+        ensures { result ≡ weight self.now.sheet.run.now self.now.inv.now self.now.sheet.size.rows self.now.sheet.size.columns t c }
     {
-        let n = self.size.rows;
-        let k = self.size.columns;
+        let n = self.sheet.size.rows;
+        let k = self.sheet.size.columns;
         let mut s = -0.0f64;
         // kept as an index loop: m picks a column of X and a row of the inverse at once, which an iterator says no plainer
         for m in 0..k {
-            s = s + self.x[m * n + t] * self.inv[m][c];
+            s = s + self.sheet.run[m * n + t] * self.inv[m][c];
         }
         s
     }
 
     // Row i of X (X'X)^-1.
     fn weights(&self, u: &mut [f64], i: usize)
-        requires { (length u.old ≡ self.now.size.columns) × (i < self.now.size.rows) }
-        ensures { u.new ≡ table (λ c. weight self.now.x.now self.now.inv.now self.now.size.rows self.now.size.columns i c) self.now.size.columns }
+        requires { (length u.old ≡ self.now.sheet.size.columns) × (i < self.now.sheet.size.rows) }
+        ensures { u.new ≡ table (λ c. weight self.now.sheet.run.now self.now.inv.now self.now.sheet.size.rows self.now.sheet.size.columns i c) self.now.sheet.size.columns }
     {
         rows::update(u, |c, _| self.weight(i, c));
     }
 
     // X (X'X)^-1 X'.
     fn hat(&self, m: &mut [f64])
-        requires { Square self.now.size.rows m.old }
-        ensures { m.new ≡ half (hat self.now.x.now self.now.inv.now self.now.size.rows self.now.size.columns) self.now.size.rows }
+        requires { Square self.now.sheet.size.rows m.old }
+        ensures { m.new ≡ half (hat self.now.sheet.run.now self.now.inv.now self.now.sheet.size.rows self.now.sheet.size.columns) self.now.sheet.size.rows }
     {
-        let n = self.size.rows;
-        let k = self.size.columns;
+        let n = self.sheet.size.rows;
+        let k = self.sheet.size.columns;
         let mut row = [0.0f64; MAX_COLUMNS];
         let u = &mut row[..k];
         rows::fill(m, -0.0);
         // kept as an index loop: each row of a triangle is a number longer than the one before, so chunks do not fit
         for i in 0..n {
             self.weights(u, i);
-            matrix::add_to_row(m, i, self.x, n, u);
+            matrix::add_to_row(m, i, self.sheet.run, n, u);
         }
     }
 
     // M = I - X (X'X)^-1 X'.
     fn residual_maker(&self, m: &mut [f64])
-        requires { Square self.now.size.rows m.old }
-        ensures { m.new ≡ half (residual self.now.x.now self.now.inv.now self.now.size.rows self.now.size.columns) self.now.size.rows }
+        requires { Square self.now.sheet.size.rows m.old }
+        ensures { m.new ≡ half (residual self.now.sheet.run.now self.now.inv.now self.now.sheet.size.rows self.now.sheet.size.columns) self.now.sheet.size.rows }
     {
         self.hat(m);
         matrix::negate(m);
-        matrix::add_identity(m, self.size.rows);
+        matrix::add_identity(m, self.sheet.size.rows);
     }
 
     // M into the second half of the room, then M A M into the first.
     fn fill_room(&self, room: &mut [f64])
-        requires { Squares self.now.size.rows room.old }
-        ensures { room.new ≡ half (product self.now.x.now self.now.inv.now self.now.size.rows self.now.size.columns) self.now.size.rows ++ (half (residual self.now.x.now self.now.inv.now self.now.size.rows self.now.size.columns) self.now.size.rows ++ drop (triangle self.now.size.rows + triangle self.now.size.rows) room.old) }
+        requires { Squares self.now.sheet.size.rows room.old }
+        ensures { room.new ≡ half (product self.now.sheet.run.now self.now.inv.now self.now.sheet.size.rows self.now.sheet.size.columns) self.now.sheet.size.rows ++ (half (residual self.now.sheet.run.now self.now.inv.now self.now.sheet.size.rows self.now.sheet.size.columns) self.now.sheet.size.rows ++ drop (triangle self.now.sheet.size.rows + triangle self.now.sheet.size.rows) room.old) }
     {
-        let n = self.size.rows;
+        let n = self.sheet.size.rows;
         let half = halves::place(n, 0);
         let full = half + half;
         self.residual_maker(&mut room[half..full]);
@@ -223,13 +234,13 @@ impl<'a> Fit<'a> {
 
 // M A M in the first n (n + 1) / 2 numbers of the room and M in the next, the lower triangle of each; the rest of the
 // room stays. The answer is the first number of M A M that is not finite.
-pub fn mam(room: &mut [f64], x: &[f64], inv: Matrix, size: SheetSize) -> Option<usize>
-    requires { (matrix_room size.rows ≤ length room.old) × (Design size x.now) }
-    ensures value { result ≡ first_bad (half_of size.rows (mam_of x.now inv size.rows size.columns)) }
-    ensures room_after { room.new ≡ half_of size.rows (mam_of x.now inv size.rows size.columns) ++ (half_of size.rows (residual_maker x.now inv size.rows size.columns) ++ drop (matrix_room size.rows) room.old) }
+pub fn mam(room: &mut [f64], sheet: Sheet, inv: Matrix) -> Option<usize>
+    requires { matrix_room sheet.size.rows ≤ length room.old }
+    ensures value { result ≡ first_bad (half_of sheet.entry.size.rows (mam_of sheet.entry.run.now inv sheet.entry.size.rows sheet.entry.size.columns)) }
+    ensures room_after { room.new ≡ half_of sheet.entry.size.rows (mam_of sheet.entry.run.now inv sheet.entry.size.rows sheet.entry.size.columns) ++ (half_of sheet.entry.size.rows (residual_maker sheet.entry.run.now inv sheet.entry.size.rows sheet.entry.size.columns) ++ drop (matrix_room sheet.entry.size.rows) room.old) }
 {
-    let fit = Fit { x, inv: &inv, size };
+    let fit = Fit { sheet, inv: &inv };
     fit.fill_room(room);
-    let searched = halves::place(size.rows, 0);
+    let searched = halves::place(sheet.size.rows, 0);
     floats::search::first_bad(&room[..searched])
 }

@@ -49,6 +49,7 @@ fn is_negligible(e: f64, above: f64, below: f64) -> bool
 }
 
 // The entry that the sweep from `m` down to `l` begins with: Wilkinson's shift taken off d[m].
+#[tactic(auto, unfolding(crate::specs::Sweep::shift_of))]
 fn shift(first: f64, second: f64, last: f64, e: f64) -> f64
     ensures { result ≡ shift_of first second last e }
 {
@@ -58,6 +59,7 @@ fn shift(first: f64, second: f64, last: f64, e: f64) -> f64
 }
 
 // One rotation, on floats alone: `d` and `next` are the two diagonal entries, `e` couples them.
+#[tactic(auto, unfolding(crate::specs::Rotation::rotated))]
 fn rotate(at: Rotation, d: f64, next: f64, e: f64) -> Rotated
     ensures { result ≡ rotated at d next e }
 {
@@ -95,6 +97,7 @@ const MOST_SWEEPS: usize = 60;
 #[derive(Clone, Copy)]
 pub struct Swept {
     pub work: Tally,
+    // kept as a flag: the work beside it is there whether or not a coupling is left
     pub stuck: bool,
 }
 
@@ -139,6 +142,7 @@ impl<'a> Bands<'a> {
             g: shift(self.d[l], self.d[l + 1], self.d[m], self.e[l]),
             p: 0.0,
         };
+        // kept as an index loop: a step reads d[i], d[i + 1] and e[i] and writes d[i + 1] and e[i + 1], parts that overlap
         for i in (l..m).rev() {
             let turn = rotate(at, self.d[i], self.d[i + 1], self.e[i]);
             self.d[i + 1] = turn.diagonal;
@@ -189,6 +193,7 @@ impl<'a> Bands<'a> {
 }
 
 // Every index's turn. The first `n` numbers of `d` end as the eigenvalues, in no order.
+// kept with n beside d and e: longer runs may be lent, and d_after and e_after speak of what stands beyond n too
 pub fn ql(d: &mut [f64], e: &mut [f64], n: usize, work: Tally) -> Swept
     requires { (n ≤ length d.old) × (n ≤ length e.old) × (work.sweeps + most_sweeps * n < 2 ^ 64) }
     ensures work_value { (result.work ≡ (ql_of n n d.old e.old work).work) × (result.stuck ≡ stuck_of n n d.old e.old work) }
@@ -197,6 +202,7 @@ pub fn ql(d: &mut [f64], e: &mut [f64], n: usize, work: Tally) -> Swept
 {
     let mut bands = Bands { d, e, n };
     let mut swept = Swept { work, stuck: false };
+    // kept as an index loop: l is the index whose turn it is, no element of one run
     for l in 0..n {
         swept = bands.settle_and_look(l, swept);
     }

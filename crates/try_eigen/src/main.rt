@@ -8,9 +8,8 @@
 
 mod print;
 
-ghost use Rattle.std.specs.Prelude.{◌≡◌, ◌+◌, ◌*◌, ◌≤◌, ◌<◌, length};
-ghost use Rattle.floats.specs.Limits.{max_rows, max_columns, matrix_room};
-ghost use Rattle.columns.specs.Sheet.{Design};
+ghost use Rattle.std.specs.Prelude.{◌*◌, ◌≤◌, ◌<◌};
+ghost use Rattle.floats.specs.Limits.{max_rows, max_columns};
 
 use columns::{Sheet, SheetSize};
 use design::Matrix;
@@ -24,10 +23,12 @@ use std::io::Read;
 
 const MOST_DESIGNS: usize = 1_000_000;
 
-// The bytes of an inverse, which come first, and the numbers and the room of the largest sheet.
+// The bytes of an inverse, which come first, and the numbers, the bytes and the room of the largest sheet.
 const INVERSE_BYTES: usize = 8 * MAX_COLUMNS * MAX_COLUMNS;
 
 const MOST_NUMBERS: usize = MAX_COLUMNS * MAX_ROWS;
+
+const MOST_BYTES: usize = INVERSE_BYTES + 8 * MOST_NUMBERS;
 
 const MATRIX_ROOM: usize = MAX_ROWS * (MAX_ROWS + 1);
 
@@ -43,21 +44,21 @@ fn inverse_by_columns(sheet: Sheet) -> Result<Matrix, TestError> {
 fn spectrum_of(
     sheet: Sheet,
     given: Option<Matrix>,
-    room: &mut [f64],
-    kept: &mut [f64],
+    room: &mut [f64; MATRIX_ROOM],
+    kept: &mut [f64; MAX_ROWS],
 ) -> Result<Numbers, TestError>
-    requires { (sheet.size.columns ≤ sheet.size.rows) × (matrix_room sheet.size.rows ≤ length room.old) × (sheet.size.rows ≤ length kept.old) }
+    requires { sheet.size.columns ≤ sheet.size.rows }
 {
     let inverse = match given {
         Some(inverse) => inverse,
         None => inverse_by_columns(sheet)?,
     };
-    Ok(eigen::ma_eigenvalues(sheet.run, sheet.size, inverse, room, kept)?)
+    Ok(eigen::ma_eigenvalues(sheet, inverse, room, kept)?)
 }
 
 // Row i of the inverse that is given.
-fn row_in(bytes: &[u8], i: usize) -> [f64; MAX_COLUMNS]
-    requires { (i < max_columns) × (8 * (max_columns * max_columns) ≤ length bytes.now) }
+fn row_in(bytes: &[u8; MOST_BYTES], i: usize) -> [f64; MAX_COLUMNS]
+    requires { i < max_columns }
 {
     let mut row = [0.0f64; MAX_COLUMNS];
     for (j, x) in row.iter_mut().enumerate() {
@@ -66,9 +67,7 @@ fn row_in(bytes: &[u8], i: usize) -> [f64; MAX_COLUMNS]
     row
 }
 
-fn inverse_in(bytes: &[u8]) -> Matrix
-    requires { 8 * (max_columns * max_columns) ≤ length bytes.now }
-{
+fn inverse_in(bytes: &[u8; MOST_BYTES]) -> Matrix {
     let mut inverse = [[0.0f64; MAX_COLUMNS]; MAX_COLUMNS];
     for (i, row) in inverse.iter_mut().enumerate() {
         *row = row_in(bytes, i);
@@ -76,33 +75,34 @@ fn inverse_in(bytes: &[u8]) -> Matrix
     inverse
 }
 
-// The columns, whose patterns stand behind the inverse, at the start of `run`.
-fn read_columns(bytes: &[u8], count: usize, run: &mut [f64])
-    requires { (8 * (max_columns * max_columns) + 8 * count ≤ length bytes.now) × (count ≤ length run.old) }
+// The columns' numbers, whose patterns stand behind the inverse; +0 behind the first `count`.
+fn columns_in(bytes: &[u8; MOST_BYTES], count: usize) -> [f64; MOST_NUMBERS]
+    requires { count ≤ max_columns * max_rows }
 {
+    let mut run = [0.0f64; MOST_NUMBERS];
     for (t, x) in run[..count].iter_mut().enumerate() {
         *x = float_at(bytes, INVERSE_BYTES + 8 * t);
     }
+    run
 }
 
-// A design of a size that fits, with room for its numbers; false where the input ends.
+// A design of a size that fits; false where the input ends.
 fn design_of(
     rt: &(impl Input + Print),
     i: usize,
     head: &[u8; 24],
     size: SheetSize,
-    bytes: &mut [u8],
-    run: &mut [f64],
-    room: &mut [f64],
+    room: &mut [f64; MATRIX_ROOM],
 ) -> io::Result<bool>
-    requires { (size.rows ≤ max_rows) × (size.columns ≤ max_columns) × (size.columns ≤ size.rows) × (8 * (max_columns * max_columns) + 8 * (size.columns * size.rows) ≤ length bytes.old) × (size.columns * size.rows ≤ length run.old) × (matrix_room size.rows ≤ length room.old) }
+    requires { (size.rows ≤ max_rows) × (size.columns ≤ max_columns) × (size.columns ≤ size.rows) }
 {
+    let mut bytes = [0u8; MOST_BYTES];
     let count = size.columns * size.rows;
     let all = INVERSE_BYTES + 8 * count;
     if rt.reader().read_exact(&mut bytes[..all]).is_err() {
         return Ok(false);
     }
-    read_columns(bytes, count, run);
+    let run = columns_in(&bytes, count);
     let sheet = Sheet {
         run: &run[..count],
         size,
@@ -110,7 +110,7 @@ fn design_of(
     let given = if little_endian(head, 16, 8) == 0 {
         None
     } else {
-        Some(inverse_in(bytes))
+        Some(inverse_in(&bytes))
     };
     let mut kept = [0.0f64; MAX_ROWS];
     match spectrum_of(sheet, given, room, &mut kept) {
@@ -125,10 +125,8 @@ fn one_design(
     rt: &(impl Input + Print),
     i: usize,
     head: &[u8; 24],
-    room: &mut [f64],
-) -> io::Result<bool>
-    requires { matrix_room max_rows ≤ length room.old }
-{
+    room: &mut [f64; MATRIX_ROOM],
+) -> io::Result<bool> {
     let n = little_endian(head, 0, 8) as usize;
     let k = little_endian(head, 8, 8) as usize;
     let Ok(size) = SheetSize::new(n, k) else {
@@ -137,14 +135,11 @@ fn one_design(
     if size.columns > size.rows {
         return Ok(false);
     }
-    let mut bytes = [0u8; INVERSE_BYTES + 8 * MOST_NUMBERS];
-    let mut run = [0.0f64; MOST_NUMBERS];
-    design_of(rt, i, head, size, &mut bytes, &mut run, room)
+    design_of(rt, i, head, size, room)
 }
 
-fn designs(rt: &(impl Input + Print), room: &mut [f64]) -> io::Result<()>
-    requires { matrix_room max_rows ≤ length room.old }
-{
+fn designs(rt: &(impl Input + Print), room: &mut [f64; MATRIX_ROOM]) -> io::Result<()> {
+    // kept as an index loop: i is the number that a design's line begins with
     for i in 0..MOST_DESIGNS {
         let mut head = [0u8; 24];
         if rt.reader().read_exact(&mut head).is_err() {
@@ -157,13 +152,7 @@ fn designs(rt: &(impl Input + Print), room: &mut [f64]) -> io::Result<()>
     Ok(())
 }
 
-fn matrix_room() -> [f64; MATRIX_ROOM]
-    ensures { matrix_room max_rows ≡ length result }
-{
-    [0.0; MATRIX_ROOM]
-}
-
 fn main(rt: HostRuntime) -> io::Result<()> {
-    let mut room = matrix_room();
+    let mut room = [0.0f64; MATRIX_ROOM];
     designs(&rt, &mut room)
 }

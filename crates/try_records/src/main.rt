@@ -92,7 +92,7 @@ fn try_spectrum(rt: &impl Print, i: usize, sheet: Sheet, inverse: Matrix, d: f64
 {
     let mut room = [0.0f64; MATRIX_ROOM];
     let mut kept = [0.0f64; MAX_ROWS];
-    let spectrum = eigen::ma_eigenvalues(sheet.run, sheet.size, inverse, &mut room, &mut kept);
+    let spectrum = eigen::ma_eigenvalues(sheet, inverse, &mut room, &mut kept);
     if let Ok(s) = spectrum {
         if let Some(kept) = kept.get(..s.count) {
             try_eigenvalues(rt, i, kept, d)?;

@@ -2,8 +2,7 @@ use Rattle.ql.specs.Ql.{ql_of, stuck_of}
 use Rattle.ql.proofs.SweepLaws.{all-sweeps}
 use native.Mathlib.Omega.{arith}
 use native.Mathlib.Numerals.{add-one}
-use native.Mathlib.Nat.{le_antisymm}
-use mathlib.Core.Path.{refl, ap, ◌∙◌}
+use mathlib.Core.Path.{refl, ◌∙◌}
 use Rattle.ql.proofs.ql.Goals as goal
 
 pub loop-l-init : goal.loop-l-init
@@ -21,7 +20,3 @@ loop-l-preserved c = let loop = c.loop-l in
     let turn = c.settle_and_look-swept in
     let same = turn.ensures.same_runs in
     (omega arith, same.0 ∙ loop.invariant.1, same.1 ∙ loop.invariant.2, same.2 ∙ loop.invariant.3, rw (add-one loop.l, turn.ensures.stuck_value.1, turn.ensures.d_after, turn.ensures.e_after, ← loop.invariant.4, loop.invariant.3), rw (add-one loop.l, turn.ensures.stuck_value.0, loop.invariant.5, ← loop.invariant.4, loop.invariant.3))
-
-pub returns-clause-work_value : goal.returns-clause-work_value
-returns-clause-work_value c = let all = le_antisymm c.loop-l.invariant.0 c.loop-l-test.false in
-    (ap (λ s. s.work) (rw all at c.loop-l.invariant.4), rw all at c.loop-l.invariant.5)

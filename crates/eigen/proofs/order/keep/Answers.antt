@@ -38,6 +38,3 @@ loop-x-preserved c = let loop = c.loop-x in
       | then-x w ↦ stored d c.args.kept.now c.args.m loop.x-index loop.count c.if-x.count loop.kept c.if-x.kept c.requires.0 c.requires.1 b loop.invariant.1 loop.invariant.2 loop.invariant.3 w.if-x.true w.count-is w.kept-is
       | else-x w ↦ left d c.args.kept.now c.args.m loop.x-index loop.count c.if-x.count loop.kept c.if-x.kept c.requires.0 c.requires.1 b loop.invariant.1 loop.invariant.2 loop.invariant.3 w.if-x.false w.count-is w.kept-is
     ]
-
-pub returns : goal.returns
-returns c = let h : c.loop-x.x-index ≡ c.args.m = omega (arith, c.loop-x.invariant.0, c.loop-x-test.false, length-take c.args.m c.args.d.now, c.requires.0) in record { count = c.loop-x.invariant.2 ∙ rw h; kept_after = c.loop-x.invariant.3 ∙ rw (c.loop-x.invariant.2, h) }

@@ -7,4 +7,4 @@ use lib.ListN.{length}
 use Rattle.projection.proofs.Fit.hat.Given as goal
 
 abbrev pub invariant-loop-i : goal.invariant-loop-i
-invariant-loop-i l = (l.i ≤ l.n) × (length l.m ≡ triangle l.n) × (length l.u ≡ l.self.size.columns) × (l.m ≡ hat_to l.self.x.now l.self.inv.now l.n l.self.size.columns l.i)
+invariant-loop-i l = (l.i ≤ l.n) × (length l.m ≡ triangle l.n) × (length l.u ≡ l.self.sheet.size.columns) × (l.m ≡ hat_to l.self.sheet.run.now l.self.inv.now l.n l.self.sheet.size.columns l.i)

@@ -7,4 +7,4 @@ use Rattle.projection.proofs.Fit.residual_maker.Goals as goal
 pub returns : goal.returns
 unfolding identified
 returns c = let args = c.args in
-    c.add_identity.ensures ∙ residual-of args.self.now.x.now args.self.now.inv.now args.self.now.size.rows args.self.now.size.columns _ _ c.hat.ensures c.negate.ensures
+    c.add_identity.ensures ∙ residual-of args.self.now.sheet.run.now args.self.now.inv.now args.self.now.sheet.size.rows args.self.now.sheet.size.columns _ _ c.hat.ensures c.negate.ensures

@@ -12,16 +12,16 @@ unfolding sum_of
 loop-m-init c = (omega arith, refl)
 
 pub overflow_mul-s : goal.overflow_mul-s
-overflow_mul-s c = let h = row_in c.args.self.now.size.rows c.loop-m-test.true in omega arith
+overflow_mul-s c = let h = row_in c.args.self.now.sheet.size.rows c.loop-m-test.true in omega arith
 
 pub overflow_add-s : goal.overflow_add-s
-overflow_add-s c = let h = row_in c.args.self.now.size.rows c.loop-m-test.true in omega arith
+overflow_add-s c = let h = row_in c.args.self.now.sheet.size.rows c.loop-m-test.true in omega arith
 
 pub offset_bounds-self-m : goal.offset_bounds-self-m
-offset_bounds-self-m c = let h = row_in c.args.self.now.size.rows c.loop-m-test.true in omega arith
+offset_bounds-self-m c = let h = row_in c.args.self.now.sheet.size.rows c.loop-m-test.true in omega arith
 
 pub bounds-self-m : goal.bounds-self-m
-bounds-self-m c = let h = row_in c.args.self.now.size.rows c.loop-m-test.true in omega arith
+bounds-self-m c = let h = row_in c.args.self.now.sheet.size.rows c.loop-m-test.true in omega arith
 
 pub loop-m-preserved : goal.loop-m-preserved
 unfolding sum_of

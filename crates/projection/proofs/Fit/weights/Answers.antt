@@ -7,5 +7,5 @@ use Rattle.projection.proofs.Fit.weights.Goals as goal
 
 pub returns : goal.returns
 returns c = let s = c.args.self.now in
-    let row = weight s.x.now s.inv.now s.size.rows s.size.columns c.args.i in
+    let row = weight s.sheet.run.now s.inv.now s.sheet.size.rows s.sheet.size.columns c.args.i in
     is-table row _ _ c.update.ensures.kept (λ j h. search (rules, c.update.ensures.each j h)) ∙ ap (table row) c.requires.0

@@ -1,5 +1,4 @@
 use mathlib.Core.Bool.{true, false}
-use native.Mathlib.Nat.{sub-zero}
 use borrow.Author.Tests.{eq-eqb, ne_eqb}
 use Rattle.floats.specs.Count.{one_sweep}
 use Rattle.floats.specs.declared.tally.Tally.{Tally}
@@ -27,9 +26,6 @@ module _ (n l m k : ℕ) (d e : List Float) (w : Tally) where
       → settled n l k d e w ≡ settled n' l f d' e' w'
   unfolding settled
   swept f n' d' e' w' p q t a b x y = rw (p, a, b, x, y, ← q, t) refl
-
-pub loop-init : goal.loop-init
-loop-init c = (omega arith, refl, refl, refl, omega arith, rw (sub-zero most_sweeps) refl)
 
 pub returns-then-m-l : goal.returns-then-m-l
 returns-then-m-l c = let loop = c.loop in
