@@ -11,31 +11,56 @@ ghost use Rattle.imhof.specs.Room.{PartRoom, parts_in, laid_out};
 ghost use Rattle.imhof.specs.Rule.{rule_size};
 ghost use Rattle.imhof.specs.declared.Standing.TheVariants.{Open};
 
+use super::room::Parts;
 use super::rule::{RULE_SIZE, bisect, gk15};
-use super::{Integral, MOST_PARTS, NotFinite, Part, Standing, room};
+use super::{Integral, MOST_BISECTIONS, NotFinite, Standing};
 use floats::signs::is_finite;
 use floats::tally::Tally;
 
 // Half of 1e-11: the cuts of the range and the quadrature share it.
 pub const TOLERANCE: f64 = 5e-12;
 
-// One turn over n parts: if their summed error is at most the tolerance they are settled, else the one of greatest error is bisected.
-// Where a half's value or error is not finite the parts stay as they were. How they stand does not depend on the tally t.
+impl<'a> Parts<'a> {
+    // One turn: if the summed error is at most the tolerance the parts are settled, else the one of greatest error is bisected.
+    // Where a half's value or error is not finite they stay as they were. How they stand does not depend on the tally t.
+    fn advance(&mut self, weights: &[f64]) -> Standing
+        requires { self.old.n < most_parts }
+        ensures same_room { self.new.room.ghost_name ≡ self.old.room.ghost_name }
+        ensures value { (t : Tally) → result ≡ (next_stage (integrand_of weights.now) (stage (parts_in self.old.n self.old.room.now) t Open)).standing }
+        ensures count { (t : Tally) → self.new.n ≡ length (next_stage (integrand_of weights.now) (stage (parts_in self.old.n self.old.room.now) t Open)).parts }
+        ensures room_after { (t : Tally) → self.new.room.now ≡ laid_out (next_stage (integrand_of weights.now) (stage (parts_in self.old.n self.old.room.now) t Open)).parts self.old.room.now }
+    {
+        if self.error_sum() <= TOLERANCE {
+            return Standing::Settled;
+        }
+        let w = self.worst();
+        let h = bisect(weights, self.part_at(w));
+        if !h.are_finite() {
+            return Standing::Refused;
+        }
+        self.replace(w, h.left, h.right);
+        Standing::Open
+    }
+
+    // What they add up to.
+    fn total(&self, tally: Tally) -> Integral
+        ensures { result ≡ integral_of (stage (parts_in self.now.n self.now.room.now) tally Open) }
+    {
+        Integral {
+            value: self.value_sum(),
+            error: self.error_sum(),
+            tally,
+        }
+    }
+}
+
+// One turn over the first n parts of a lent slice: kept beside the method, since it is public and promises this of a bare slice.
 pub fn advance(weights: &[f64], parts: &mut [f64], n: usize) -> Standing
     requires { (0 < n) × (n < most_parts) × PartRoom parts.old }
     ensures value { (t : Tally) → result ≡ (next_stage (integrand_of weights.now) (stage (parts_in n parts.old) t Open)).standing }
     ensures parts_after { (t : Tally) → parts.new ≡ laid_out (next_stage (integrand_of weights.now) (stage (parts_in n parts.old) t Open)).parts parts.old }
 {
-    if room::error_sum(parts, n) <= TOLERANCE {
-        return Standing::Settled;
-    }
-    let w = room::worst(parts, n);
-    let h = bisect(weights, room::part_at(parts, w));
-    if !h.are_finite() {
-        return Standing::Refused;
-    }
-    room::replace(parts, n, w, h.left, h.right);
-    Standing::Open
+    Parts { room: parts, n }.advance(weights)
 }
 
 // The tally after one more bisection: a rule for each half.
@@ -46,40 +71,11 @@ pub fn with_bisection(tally: Tally) -> Tally
     tally.bisected().evaluated(RULE_SIZE).evaluated(RULE_SIZE)
 }
 
-// What n parts add up to.
-fn total(parts: &[f64], n: usize, tally: Tally) -> Integral
-    requires { (n ≤ most_parts) × PartRoom parts.now }
-    ensures { result ≡ integral_of (stage (parts_in n parts.now) tally Open) }
-{
-    Integral {
-        value: room::value_sum(parts, n),
-        error: room::error_sum(parts, n),
-        tally,
-    }
-}
-
 // Whether the summed error is at most the tolerance. The turns ask it before each bisection; the last sum, which the most bisections may leave unasked, is asked by this.
 pub fn is_small(i: Integral) -> bool
     ensures { result ≡ small_sum i }
 {
     i.error <= TOLERANCE
-}
-
-// At most MOST_BISECTIONS turns, from the room's first part on.
-fn refine(weights: &[f64], parts: &mut [f64]) -> Result<Integral, NotFinite>
-    requires { PartRoom parts.old }
-    ensures value { result ≡ quadrature_of (turns most_bisections (λ t. next_stage (integrand_of weights.now)) (stage (parts_in 1 parts.old) (one_rule no_work) Open)) }
-    ensures parts_after { parts.new ≡ laid_out (turns most_bisections (λ t. next_stage (integrand_of weights.now)) (stage (parts_in 1 parts.old) (one_rule no_work) Open)).parts parts.old }
-{
-    let mut tally = Tally::new().evaluated(RULE_SIZE);
-    for n in 1..MOST_PARTS {
-        match advance(weights, parts, n) {
-            Standing::Open => tally = with_bisection(tally),
-            Standing::Settled => return Ok(total(parts, n, tally)),
-            Standing::Refused => return Err(NotFinite),
-        }
-    }
-    Ok(total(parts, MOST_PARTS, tally))
 }
 
 // The integral from lo to hi: one part, then at most MOST_BISECTIONS turns.
@@ -97,8 +93,17 @@ pub fn integrate(
     if !whole.is_finite() {
         return Err(NotFinite);
     }
-    room::put(parts, 0, whole);
-    refine(weights, parts)
+    let mut held = Parts { room: parts, n: 1 };
+    held.put(0, whole);
+    let mut tally = Tally::new().evaluated(RULE_SIZE);
+    for _ in 0..MOST_BISECTIONS {
+        match held.advance(weights) {
+            Standing::Open => tally = with_bisection(tally),
+            Standing::Settled => return Ok(held.total(tally)),
+            Standing::Refused => return Err(NotFinite),
+        }
+    }
+    Ok(held.total(tally))
 }
 
 // The integral over the weights' own range.

@@ -67,7 +67,7 @@ pub struct Integral {
 pub struct NotFinite;
 
 // A probability as it came out, the same clamped to [0, 1], the work it took, and whether the final error sum is small enough:
-// yes where no integral was needed.
+// yes where no integral was needed. A mark and no Result: the value stands either way.
 #[derive(Clone, Copy)]
 pub struct Estimate {
     pub raw: f64,
@@ -123,7 +123,7 @@ fn from_integral(i: Integral) -> Estimate
     )
 }
 
-// The probability for given weights, none of them 0.
+// The probability for given weights, none of them 0. Takes the bare slice, which over_range wants as its callers lend it.
 #[tactic(auto, using(crate::proofs::HeldLaws::laid_none))]
 fn below_zero(weights: &[f64], parts: &mut [f64]) -> Result<Estimate, ExactError>
     requires { (length weights.now ≤ max_rows) × PartRoom parts.old }

@@ -17,42 +17,12 @@ const VALUES: usize = 2 * MOST_PARTS;
 
 const ERRORS: usize = 3 * MOST_PARTS;
 
-pub fn part_at(room: &[f64], i: usize) -> Part
-    requires { (i < most_parts) × PartRoom room.now }
-    ensures { result ≡ stored_at room.now i }
-{
-    Part {
-        lo: room[LEFT_ENDS + i],
-        hi: room[RIGHT_ENDS + i],
-        value: room[VALUES + i],
-        error: room[ERRORS + i],
-    }
-}
-
-pub fn put(room: &mut [f64], i: usize, p: Part)
-    requires { (i < most_parts) × PartRoom room.old }
-    ensures { room.new ≡ stored i p room.old }
-{
-    room[LEFT_ENDS + i] = p.lo;
-    room[RIGHT_ENDS + i] = p.hi;
-    room[VALUES + i] = p.value;
-    room[ERRORS + i] = p.error;
-}
-
-// The sum of the first n values.
-pub fn value_sum(room: &[f64], n: usize) -> f64
-    requires { (n ≤ most_parts) × PartRoom room.now }
-    ensures { result ≡ sum_run (values_of (parts_in n room.now)) }
-{
-    floats::sums::sum(&room[VALUES..VALUES + n])
-}
-
-// The sum of the first n error estimates.
-pub fn error_sum(room: &[f64], n: usize) -> f64
-    requires { (n ≤ most_parts) × PartRoom room.now }
-    ensures { result ≡ sum_run (errors_of (parts_in n room.now)) }
-{
-    floats::sums::sum(&room[ERRORS..ERRORS + n])
+// The first n parts of a lent room. Where a function takes the bare slice, as its callers lend it, a clause still asks its length.
+#[derive(Drop)]
+pub struct Parts<'a> {
+    pub room: &'a mut [f64],
+    pub n: usize,
+    pub ghost fits: { (0 < n) × (n ≤ most_parts) × PartRoom room.now },
 }
 
 // The place of the greatest number, the last among equals.
@@ -71,21 +41,64 @@ fn last_greatest(errors: &[f64]) -> usize
     w
 }
 
-// The part of greatest error among the first n, the last among equals.
-pub fn worst(room: &[f64], n: usize) -> usize
-    requires { (0 < n) × (n ≤ most_parts) × PartRoom room.now }
-    ensures bound { result < n }
-    ensures value { result ≡ worst_of (parts_in n room.now) }
-{
-    last_greatest(&room[ERRORS..ERRORS + n])
-}
+impl<'a> Parts<'a> {
+    pub fn part_at(&self, i: usize) -> Part
+        requires { i < most_parts }
+        ensures { result ≡ stored_at self.now.room.now i }
+    {
+        Part {
+            lo: self.room[LEFT_ENDS + i],
+            hi: self.room[RIGHT_ENDS + i],
+            value: self.room[VALUES + i],
+            error: self.room[ERRORS + i],
+        }
+    }
 
-// Of n parts, the last takes the place of part w, then two new ones go on the end.
-pub fn replace(room: &mut [f64], n: usize, w: usize, left: Part, right: Part)
-    requires { (w < n) × (n < most_parts) × PartRoom room.old }
-    ensures { room.new ≡ laid_out (without w (parts_in n room.old) ++ (left ∷ right ∷ [])) room.old }
-{
-    put(room, w, part_at(room, n - 1));
-    put(room, n - 1, left);
-    put(room, n, right);
+    pub fn put(&mut self, i: usize, p: Part)
+        requires { i < most_parts }
+        ensures same_room { (self.new.room.ghost_name ≡ self.old.room.ghost_name) × (self.new.n ≡ self.old.n) }
+        ensures room_after { self.new.room.now ≡ stored i p self.old.room.now }
+    {
+        self.room[LEFT_ENDS + i] = p.lo;
+        self.room[RIGHT_ENDS + i] = p.hi;
+        self.room[VALUES + i] = p.value;
+        self.room[ERRORS + i] = p.error;
+    }
+
+    // The sum of the values.
+    pub fn value_sum(&self) -> f64
+        ensures { result ≡ sum_run (values_of (parts_in self.now.n self.now.room.now)) }
+    {
+        floats::sums::sum(&self.room[VALUES..VALUES + self.n])
+    }
+
+    // The sum of the error estimates.
+    pub fn error_sum(&self) -> f64
+        ensures { result ≡ sum_run (errors_of (parts_in self.now.n self.now.room.now)) }
+    {
+        floats::sums::sum(&self.room[ERRORS..ERRORS + self.n])
+    }
+
+    // The part of greatest error, the last among equals.
+    pub fn worst(&self) -> usize
+        ensures bound { result < self.now.n }
+        ensures value { result ≡ worst_of (parts_in self.now.n self.now.room.now) }
+    {
+        last_greatest(&self.room[ERRORS..ERRORS + self.n])
+    }
+
+    // The last takes the place of part w, then two new ones go on the end.
+    pub fn replace(&mut self, w: usize, left: Part, right: Part)
+        requires { (w < self.old.n) × (self.old.n < most_parts) }
+        ensures same_room { self.new.room.ghost_name ≡ self.old.room.ghost_name }
+        ensures count { self.new.n ≡ self.old.n + 1 }
+        ensures room_after { self.new.room.now ≡ laid_out (without w (parts_in self.old.n self.old.room.now) ++ (left ∷ right ∷ [])) self.old.room.now }
+    {
+        let n = self.n;
+        let last = self.part_at(n - 1);
+        self.put(w, last);
+        self.put(n - 1, left);
+        self.put(n, right);
+        self.n = n + 1;
+    }
 }

@@ -66,7 +66,7 @@ fn clear(parts: &mut [Part])
 }
 
 // The whole range as record 0, then turn after turn, until the summed error is at most the tolerance, a half is not finite, or there is no room for
-// another bisection.
+// another bisection. Kept beside imhof's turns over four runs: the theorem same_answer is on the two.
 fn refine(weights: &[f64], lo: f64, hi: f64, parts: &mut [Part]) -> Result<Integral, NotFinite>
     requires { most_parts ≤ length parts.old }
     ensures value { result ≡ found_of (work_after most_parts (integrand_of weights.now) lo hi parts.old) }

@@ -134,11 +134,11 @@ fn print_cut(rt: &impl Print) -> io::Result<()> {
     println!(rt; "the input is cut short")
 }
 
-// The numbers whose patterns stand in `bytes`, at the start of `numbers`.
-fn read_numbers(bytes: &[u8], count: usize, numbers: &mut [f64])
-    requires { (8 * count ≤ length bytes.now) × (count ≤ length numbers.old) }
+// The numbers whose patterns stand in `bytes`.
+fn read_numbers(bytes: &[u8], numbers: &mut [f64])
+    requires { 8 * length numbers.old ≤ length bytes.now }
 {
-    for (t, x) in numbers[..count].iter_mut().enumerate() {
+    for (t, x) in numbers.iter_mut().enumerate() {
         *x = float_at(bytes, 8 * t);
     }
 }
@@ -173,24 +173,22 @@ impl Score {
     }
 }
 
-// What set `i`, whose head was read, is answered, where it ends as stored. The rooms are as long as the longest set.
+// What set `i`, whose head was read, is answered, where it ends as stored. The rooms are as long as the set.
 fn replay(
     rt: &(impl Input + Print),
     i: usize,
     head: &[u8; 72],
-    count: usize,
     bytes: &mut [u8],
     numbers: &mut [f64],
 ) -> io::Result<Option<Answer>>
-    requires { (count ≤ max_rows) × (8 * count ≤ length bytes.old) × (count ≤ length numbers.old) }
+    requires { (length numbers.old ≤ max_rows) × (8 * length numbers.old ≤ length bytes.old) }
 {
-    let size = 8 * count;
-    if rt.reader().read_exact(&mut bytes[..size]).is_err() {
+    if rt.reader().read_exact(bytes).is_err() {
         print_cut(rt)?;
         return Ok(None);
     }
-    read_numbers(bytes, count, numbers);
-    let answer = answer_to(head, &numbers[..count]);
+    read_numbers(bytes, numbers);
+    let answer = answer_to(head, numbers);
     let got = Ending::from(answer);
     let want = Ending::stored(head);
     if got == want {
@@ -208,29 +206,29 @@ fn replay_set(rt: &(impl Input + Print), i: usize, head: &[u8; 72]) -> io::Resul
     }
     let mut bytes = [0u8; 8 * MAX_ROWS];
     let mut numbers = [0.0f64; MAX_ROWS];
-    replay(rt, i, head, count, &mut bytes, &mut numbers)
+    replay(rt, i, head, &mut bytes[..8 * count], &mut numbers[..count])
 }
 
-// Whether another set's head was read. Where the input ends in the midst of one, it says so.
-fn read_head(rt: &(impl Input + Print), head: &mut [u8; 72]) -> io::Result<bool> {
+// The next set's head, if there is one. Where the input ends in the midst of it, it says so.
+fn read_head(rt: &(impl Input + Print)) -> io::Result<Option<[u8; 72]>> {
+    let mut head = [0u8; 72];
     let mut input = rt.reader();
     if input.read_exact(&mut head[..1]).is_err() {
-        return Ok(false);
+        return Ok(None);
     }
     if input.read_exact(&mut head[1..]).is_err() {
         print_cut(rt)?;
-        return Ok(false);
+        return Ok(None);
     }
-    Ok(true)
+    Ok(Some(head))
 }
 
 fn main(rt: HostRuntime) -> io::Result<()> {
     let mut score = Score::default();
     for i in 0..MOST_SETS {
-        let mut head = [0u8; 72];
-        if !read_head(&rt, &mut head)? {
+        let Some(head) = read_head(&rt)? else {
             return score.print(&rt, i);
-        }
+        };
         score.count(replay_set(&rt, i, &head)?);
     }
     Ok(())

@@ -1,6 +1,6 @@
 use Rattle.imhof.specs.Room.{stored_at}
 use mathlib.Core.Path.{refl}
-use Rattle.imhof.proofs.room.part_at.Goals as goal
+use Rattle.imhof.proofs.room.Parts.part_at.Goals as goal
 
 pub returns : goal.returns
 unfolding stored_at

@@ -3,8 +3,8 @@ use Rattle.imhof.specs.Room.{values, stored_at}
 use Rattle.floats.specs.Sums.{sum_run}
 use native.Mathlib.Omega.{arith}
 use mathlib.Core.Path.{refl, ap, ◌∙◌}
-use Rattle.imhof.proofs.room.value_sum.Goals as goal
+use Rattle.imhof.proofs.room.Parts.value_sum.Goals as goal
 
 pub returns : goal.returns
 unfolding stored_at
-returns c = c.sum.ensures ∙ ap sum_run (run_in (λ p. p.value) values c.args.n c.args.room.now (λ i. refl) refl (omega arith))
+returns c = c.sum.ensures ∙ ap sum_run (run_in (λ p. p.value) values c.args.self.now.n c.args.self.now.room.now (λ i. refl) refl (omega arith))
