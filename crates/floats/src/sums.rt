@@ -16,7 +16,8 @@ pub fn sum_squares(xs: &[f64]) -> f64
     xs.iter().fold(-0.0, |s, &x| s + x * x)
 }
 
-// The products of `n` numbers of `xs` from `a` on with `n` numbers of `ys` from `b` on.
+// The products of `n` numbers of `xs` from `a` on with `n` numbers of `ys` from `b` on. Kept with the places beside the runs: the definition
+// of this name, of which the theorems on columns speak, takes them so.
 pub fn sum_products(xs: &[f64], a: usize, ys: &[f64], b: usize, n: usize) -> f64
     requires { (a + n ≤ length xs.now) × (b + n ≤ length ys.now) }
     ensures { result ≡ sum_products xs.now a ys.now b n }

@@ -73,6 +73,7 @@ pub struct Estimate {
     pub raw: f64,
     pub probability: f64,
     pub tally: Tally,
+    // a mark: the estimate beside it is there either way
     pub small: bool,
 }
 

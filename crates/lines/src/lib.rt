@@ -78,7 +78,7 @@ pub fn write_file_refusal(refusal: FileRefusal, out: &mut [u8]) -> usize
 }
 
 // The same for the line of any words, of which those at the places `patterns` are printed in hex; 0, and `out` as it was, where `out` is shorter than
-// the longest line of such words. No words have no line.
+// the longest line of such words. No words have no line. Kept with two runs: its promise speaks of them, and callers have the words as one run.
 pub fn write_words(words: &[u64], patterns: &[usize], out: &mut [u8]) -> usize
     ensures value { result ≡ words_length (words_at words.now patterns.now) out.old }
     ensures out_after { out.new ≡ words_fronted (words_at words.now patterns.now) out.old }

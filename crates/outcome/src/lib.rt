@@ -55,7 +55,8 @@ pub enum Path {
     FewForLaw,
 }
 
-// Document 01's number and place of a refusal; 0 and 0 where nothing is refused.
+// Document 01's number and place of a refusal; 0 and 0 where nothing is refused. Kept as two numbers, which a line prints; the reasons are
+// `refusals::TestError`.
 #[derive(Clone, Copy, Debug, PartialEq, Eq)]
 pub struct Refusal {
     pub number: usize,

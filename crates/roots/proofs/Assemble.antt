@@ -75,6 +75,9 @@ module _ (w d c : ℕ) (from : 2 ^ 53 ≤ w) (below : w < 3068 * 2 ^ 52) (e : d 
   small : d * 2 ^ 52 < 2 ^ 106
   small = omega (arith, e, wide m s)
 
+  pub c-below : c ≤ 2 ^ 53
+  c-below = few (d * 2 ^ 52) c small near
+
   pub written : RootBits (m * 2 ^ s) ((w - w % 2 ^ 53) / 2 + c)
   written =
       let k : s / 2 - 26 ≡ w / 2 ^ 53 = omega arith in

@@ -68,6 +68,7 @@ fn add_next<const FOURS: usize>(row: &mut [f64], xs: &[f64], stride: usize, w: &
 {
     for (j, x) in row.iter_mut().enumerate() {
         let mut sum = *x;
+        // kept as a count: the groups of four runs stand apart, in no slice that chunks walk
         for q in 0..FOURS {
             sum = four_terms(sum, xs, (t + 4 * q) * stride + j, stride, w, t + 4 * q);
         }
@@ -76,7 +77,7 @@ fn add_next<const FOURS: usize>(row: &mut [f64], xs: &[f64], stride: usize, w: &
 }
 
 // To number j of `row`: number j of the runs in `xs`, each `stride` on from the one before, each times its number of
-// `w`, first to last.
+// `w`, first to last. No type for `xs` and `stride`, here and in halves: it would be made anew at each call, from a part of a room.
 pub fn add_terms(row: &mut [f64], xs: &[f64], stride: usize, w: &[f64])
     requires { Reach (length w.now) stride (length row.old) (length xs.now) }
     ensures { row.new ≡ table (λ j. sum_from (row.old ‼ j) (length w.now) (λ s. xs.now ‼ (s * stride + j) ⊗ w.now ‼ s)) (length row.old) }

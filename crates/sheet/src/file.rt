@@ -68,7 +68,7 @@ pub enum FileRefusal {
 }
 
 impl FileRefusal {
-    // Its number, in document 01 and, for 8, in document 02.
+    // Its number, in document 01 and, for 8, in document 02. Kept as a method, as `index` is: docs name the two, and a line prints both.
     pub fn number(self) -> u64
         ensures { result ≡ number_of self }
     {

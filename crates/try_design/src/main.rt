@@ -62,7 +62,7 @@ fn work_out(rt: &impl Print, columns: &[f64], n: usize, k: usize, asked: Asked) 
     }
 }
 
-// The numbers whose patterns stand in `bytes`, at the start of `columns`.
+// The numbers whose patterns stand in `bytes`, at the start of `columns`. Each program reads its own input: a crate for these lines would be longer.
 fn read_numbers(bytes: &[u8], columns: &mut [f64]) {
     for (x, word) in columns.iter_mut().zip(bytes.chunks_exact(8)) {
         *x = float_at(word, 0);
@@ -111,6 +111,7 @@ fn one_call(rt: &(impl Input + Print), head: &[u8; 40]) -> io::Result<bool> {
 }
 
 fn main(rt: HostRuntime) -> io::Result<()> {
+    // a count: i is the call's number, which is printed, and a loop has to end
     for i in 0..MOST_CALLS {
         let mut head = [0u8; 40];
         if rt.reader().read_exact(&mut head).is_err() {

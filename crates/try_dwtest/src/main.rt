@@ -45,7 +45,7 @@ fn call_in(head: &[u8; 56]) -> Call {
     }
 }
 
-// The numbers whose patterns stand in `bytes`.
+// The numbers whose patterns stand in `bytes`. Each program reads its own input: a crate for these lines would be longer.
 fn read_numbers(bytes: &[u8], run: &mut [f64])
     requires { 8 * length run.old ≤ length bytes.now }
 {
@@ -110,6 +110,7 @@ fn one_call(
 }
 
 fn calls(rt: &(impl Input + Print), matrix: &mut [f64], parts: &mut [f64]) -> io::Result<()> {
+    // a count: i is the call's number, which is printed, and a loop has to end
     for i in 0..MOST_CALLS {
         let mut head = [0u8; 56];
         if rt.reader().read_exact(&mut head).is_err() {

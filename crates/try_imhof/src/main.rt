@@ -134,7 +134,7 @@ fn print_cut(rt: &impl Print) -> io::Result<()> {
     println!(rt; "the input is cut short")
 }
 
-// The numbers whose patterns stand in `bytes`.
+// The numbers whose patterns stand in `bytes`. Each program reads its own input: a crate for these lines would be longer.
 fn read_numbers(bytes: &[u8], numbers: &mut [f64])
     requires { 8 * length numbers.old ≤ length bytes.now }
 {
@@ -225,6 +225,7 @@ fn read_head(rt: &(impl Input + Print)) -> io::Result<Option<[u8; 72]>> {
 
 fn main(rt: HostRuntime) -> io::Result<()> {
     let mut score = Score::default();
+    // a count: i is the set's number, which is printed, and a loop has to end
     for i in 0..MOST_SETS {
         let Some(head) = read_head(&rt)? else {
             return score.print(&rt, i);
