@@ -7,17 +7,16 @@ use mathlib.Core.Logic.{◌⊎◌, ⊎_elim}
 use mathlib.Core.Bool.{cond}
 use mathlib.Core.List.{List, ◌++◌}
 use lib.Dec.{eqb}
-use lib.ListN.{length, take, drop, replicate, length-replicate, length-append, take-append-drop}
-use lib.Seq.{take_at, drop_at, drop-drop, length-take-le}
+use lib.ListN.{length, take, drop, replicate, length-replicate, length-append}
+use lib.Seq.{take_at, drop-drop, length-take-le}
 use lib.Ieee.{Float, nan}
 use borrow.Author.Tests.{eq-eqb, ne_eqb}
-use Rattle.floats.specs.Words.{◌⊗◌, ◌‼◌, plus_zero, minus_zero}
+use Rattle.floats.specs.Words.{◌⊗◌, ◌‼◌, plus_zero}
 use Rattle.floats.specs.Sums.{sum_of}
-use Rattle.floats.specs.Tables.{table, triangle, half, part, with_part}
+use Rattle.floats.specs.Tables.{table, triangle, half, with_part}
 use Rattle.floats.specs.Matrix.{entry, half_entry, half_of}
 use Rattle.floats.specs.Limits.{matrix_room}
 use Rattle.floats.proofs.Commutes.{product-swap}
-use Rattle.floats.proofs.ListLaws.{length_part}
 use Rattle.floats.proofs.TableLaws.{length-table, get_d-table}
 use Rattle.floats.proofs.HalfLaws.{half-low, length-half, half-of, half-same, part-half, rows_to, length-rows, rows_none, rows_all, triangle-twice, half-symmetric}
 use Rattle.rows.specs.Terms.{sum_from}
@@ -35,10 +34,6 @@ module _ (p l : List Float) {h : ℕ} (e : length p ≡ h) where
 -- the half of length h is lent
 pub half-lent : (h : ℕ) (l : List Float) → h + h ≤ length l → h ≡ length (take h l)
 half-lent h l b = sym (length-take-le h l (omega arith))
-
--- and the one behind it
-pub second-lent : (h : ℕ) (l : List Float) → h + h ≤ length l → length (part h (h + h) l) ≡ h
-second-lent h l b = length_part l {a = h} {e = h + h} (omega arith) b ∙ omega arith
 
 -- the first k numbers of a local array of m are lent
 pub array-lent : (m k : ℕ) → k ≤ m → length (take k (replicate m plus_zero)) ≡ k

@@ -128,7 +128,14 @@ fn products<const W: usize, const N: usize>(mam: &mut [f64], m: &[f64], n: usize
         let count = TERMS.min(n - first);
         let block = Block { first, count };
         load_rows(&mut w, N, m, n, &mut before[..n], &mut here[..n], block);
-        Rows { w: &w, stride: N, m, n, block }.add(mam);
+        let rows = Rows {
+            w: &w,
+            stride: N,
+            m,
+            n,
+            block,
+        };
+        rows.add(mam);
     }
 }
 

@@ -5,7 +5,7 @@ use Rattle.floats.specs.Tables.{table}
 use Rattle.projection.proofs.ProductLaws.{product_to, length-product, product-none, product-more, product-all}
 use Prim.Native.Nat.{◌+◌, min}
 use native.Mathlib.Omega.{arith}
-use mathlib.Core.Path.{◌≡◌, ap, sym, ◌∙◌}
+use mathlib.Core.Path.{◌≡◌, ap, ◌∙◌}
 use borrow.Author.Rules.{rules}
 use Rattle.projection.proofs.products.Goals as goal
 

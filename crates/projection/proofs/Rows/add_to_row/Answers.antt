@@ -1,8 +1,7 @@
 -- What is copied is row i of M from column t on, and matrix::add_to_row does the rest. Assumes nothing.
 use native.Mathlib.Omega.{arith}
-use mathlib.Core.Path.{◌≡◌, ap, sym, ◌∙◌}
+use mathlib.Core.Path.{ap, sym, ◌∙◌}
 use lib.ListN.{length}
-use Rattle.floats.specs.Tables.{triangle}
 use Rattle.floats.proofs.HalfLaws.{triangle-more, triangle-apart, triangle-up}
 use Rattle.floats.proofs.TableLaws.{length-table}
 use Rattle.projection.proofs.ProjectionLaws.{reach-rows}
@@ -30,10 +29,10 @@ slice_bounds-add_to_row-end c = let s = c.args.self.now in sym (ap length (array
 
 pub add_to_row-requires : goal.add_to_row-requires
 add_to_row-requires c = let s = c.args.self.now in (
-      omega (arith, c.requires.0.1, c.requires.1),
-      omega (arith, c.requires.0.0, triangle-apart c.requires.1, triangle-more c.args.i),
-      rw (ap length (array-filled 16 s.block.count _ c.copy_row.new.row s.within.3 c.copy_row.ensures) ∙ length-table _ s.block.count) (reach-rows s.n s.stride c.args.i s.block.count (length s.w.now) c.requires.1 s.within.0 s.within.1),
-    )
+  omega (arith, c.requires.0.1, c.requires.1),
+  omega (arith, c.requires.0.0, triangle-apart c.requires.1, triangle-more c.args.i),
+  rw (ap length (array-filled 16 s.block.count _ c.copy_row.new.row s.within.3 c.copy_row.ensures) ∙ length-table _ s.block.count) (reach-rows s.n s.stride c.args.i s.block.count (length s.w.now) c.requires.1 s.within.0 s.within.1),
+)
 
 pub returns : goal.returns
 returns c = let s = c.args.self.now in c.add_to_row.ensures ∙ block-turn s.n s.block.first s.block.count c.args.mam.now s.m.now s.stride c.args.i s.w.now _ c.requires.0.0 c.requires.1 (array-filled 16 s.block.count _ c.copy_row.new.row s.within.3 c.copy_row.ensures)
