@@ -2,7 +2,7 @@
 -- numbers that M's run holds. Assumes nothing.
 use Prim.Native.Nat.{ℕ, ◌+◌, ◌<◌, min, max}
 use native.Mathlib.Omega.{arith}
-use mathlib.Core.Path.{◌≡◌, ap, ◌∙◌}
+use mathlib.Core.Path.{◌≡◌, refl, ap, ◌∙◌}
 use mathlib.Core.List.{List}
 use lib.ListN.{length}
 use lib.Ieee.{Float}
@@ -42,6 +42,10 @@ module _ (n : ℕ) (m : List Float) where
   product-more t k =
       half-same n (λ i j. sum_from (half_entry (product_to t) i j) k (λ s. term i j (t + s))) (λ i j. sum_of (t + k) (term i j))
       (λ i j h l. ap (λ y. sum_from y k (λ s. term i j (t + s))) (entry-half (λ i j. sum_of t (term i j)) n i j h l) ∙ sum-group t k (term i j))
+
+  pub product-all : product_to n ≡ half (λ i j. sum_of n (term i j)) n
+  unfolding product_to
+  product-all = refl
 
 -- ---- M A M, from the numbers that M's run holds
 module _ (x : List Float) (inv : List (List Float)) (n k : ℕ) where

@@ -73,39 +73,38 @@ fn load_rows(
     }
 }
 
-// The rows of A M that a block of terms takes, in `w`, each `stride` on from the one before; M has n rows.
+// A block of terms of M A M: the rows of A M that it takes, in `w`, each `stride` on from the one before, and M, of n rows.
 #[derive(Clone, Copy)]
 struct Rows<'a> {
     w: &'a [f64],
     stride: usize,
+    m: &'a [f64],
     n: usize,
     block: Block,
     ghost within: { (n ≤ stride) × (block.count * stride ≤ length w.now) × (block.first + block.count ≤ n) × (block.count ≤ 16) },
+    ghost loaded: { (Square n m.now) × (Loaded stride n block.first m.now block.count w.now) },
 }
 
 impl<'a> Rows<'a> {
-    // Adds the terms to row i of the first half of the room, up to the diagonal: the rows, each times its number of row
-    // i of M, which is in the second half.
-    fn add_to_row(&self, room: &mut [f64], i: usize)
-        requires { (Squares self.now.n room.old) × (i < self.now.n) }
-        ensures { room.new ≡ half (λ r c. cond (eqb r i) (sum_from (half_entry (take (triangle self.now.n) room.old) r c) self.now.block.count (λ s. self.now.w.now ‼ (s * self.now.stride + c) ⊗ half_entry (part (triangle self.now.n) (triangle self.now.n + triangle self.now.n) room.old) i (self.now.block.first + s))) (half_entry (take (triangle self.now.n) room.old) r c)) self.now.n ++ drop (triangle self.now.n) room.old }
+    // Adds the terms to row i of M A M, up to the diagonal: the rows, each times its number of row i of M.
+    fn add_to_row(&self, mam: &mut [f64], i: usize)
+        requires { (Square self.now.n mam.old) × (i < self.now.n) }
+        ensures { mam.new ≡ half (λ r c. cond (eqb r i) (sum_from (half_entry mam.old r c) self.now.block.count (λ s. self.now.w.now ‼ (s * self.now.stride + c) ⊗ half_entry self.now.m.now i (self.now.block.first + s))) (half_entry mam.old r c)) self.now.n }
     {
         let k = self.block.count;
-        let half = halves::place(self.n, 0);
-        let full = half + half;
         let mut u = [0.0f64; 16];
-        halves::copy_row(&mut u[..k], &room[half..full], i, self.block.first);
-        matrix::add_to_row(&mut room[..half], i, self.w, self.stride, &u[..k]);
+        halves::copy_row(&mut u[..k], self.m, i, self.block.first);
+        matrix::add_to_row(mam, i, self.w, self.stride, &u[..k]);
     }
 
-    // Adds the terms to every entry of M A M in the first half of the room, M being in the second.
-    fn add(&self, room: &mut [f64])
-        requires { (Squares self.now.n room.old) × (Loaded self.now.stride self.now.n self.now.block.first (part (triangle self.now.n) (triangle self.now.n + triangle self.now.n) room.old) self.now.block.count self.now.w.now) }
-        ensures { room.new ≡ half (λ i j. sum_from (half_entry (take (triangle self.now.n) room.old) i j) self.now.block.count (λ s. half_entry (part (triangle self.now.n) (triangle self.now.n + triangle self.now.n) room.old) i (self.now.block.first + s) ⊗ difference_at (λ r. half_entry (part (triangle self.now.n) (triangle self.now.n + triangle self.now.n) room.old) r j) self.now.n (self.now.block.first + s))) self.now.n ++ drop (triangle self.now.n) room.old }
+    // Adds the terms to every entry of M A M.
+    fn add(&self, mam: &mut [f64])
+        requires { Square self.now.n mam.old }
+        ensures { mam.new ≡ half (λ i j. sum_from (half_entry mam.old i j) self.now.block.count (λ s. half_entry self.now.m.now i (self.now.block.first + s) ⊗ difference_at (λ r. half_entry self.now.m.now r j) self.now.n (self.now.block.first + s))) self.now.n }
     {
         // kept as an index loop: i is a row of M as well as of M A M, and each row of a triangle is a number longer than the one before
         for i in 0..self.n {
-            self.add_to_row(room, i);
+            self.add_to_row(mam, i);
         }
     }
 }
@@ -113,40 +112,29 @@ impl<'a> Rows<'a> {
 // How many terms are added to every entry before the next.
 const TERMS: usize = 16;
 
-// M A M into the first half of the room, from M in the second. It has room of its own: of W numbers for the sixteen rows
-// of a block, which stand N apart, and of N for each of two rows of M. To clear much of it costs a small matrix more than
-// the products do; at the stride of the largest `rows::add_terms` takes sixteen terms a pass.
-// kept as functions of the room and n: methods of a struct over a room that they change would each have to say that the
-// struct holds the same room and n still, more than the one fact of them
-fn products<const W: usize, const N: usize>(room: &mut [f64], n: usize)
-    requires { (Squares n room.old) × (n ≤ N) × (16 * N ≤ W) × (W ≤ 16 * max_rows) }
-    ensures { room.new ≡ half (λ i j. sum_of n (λ t. half_entry (part (triangle n) (triangle n + triangle n) room.old) i t ⊗ difference_at (λ s. half_entry (part (triangle n) (triangle n + triangle n) room.old) s j) n t)) n ++ drop (triangle n) room.old }
+// M A M, from M. It has room of its own: of W numbers for the sixteen rows of a block, which stand N apart, and of N for
+// each of two rows of M. To clear much of it costs a small matrix more than the products do; at the stride of the largest
+// `rows::add_terms` takes sixteen terms a pass.
+fn products<const W: usize, const N: usize>(mam: &mut [f64], m: &[f64], n: usize)
+    requires { (Square n mam.old) × (Square n m.now) × (n ≤ N) × (16 * N ≤ W) × (W ≤ 16 * max_rows) }
+    ensures { mam.new ≡ half (λ i j. sum_of n (λ t. half_entry m.now i t ⊗ difference_at (λ s. half_entry m.now s j) n t)) n }
 {
     let mut w = [0.0f64; W];
     let mut before = [0.0f64; N];
     let mut here = [0.0f64; N];
-    let half = halves::place(n, 0);
-    let full = half + half;
-    rows::fill(&mut room[..half], -0.0);
+    rows::fill(mam, -0.0);
     for first in (0..n).step_by(TERMS) {
         let count = TERMS.min(n - first);
         let block = Block { first, count };
-        load_rows(
-            &mut w,
-            N,
-            &room[half..full],
-            n,
-            &mut before[..n],
-            &mut here[..n],
-            block,
-        );
-        Rows {
+        load_rows(&mut w, N, m, n, &mut before[..n], &mut here[..n], block);
+        let rows = Rows {
             w: &w,
             stride: N,
+            m,
             n,
             block,
-        }
-        .add(room);
+        };
+        rows.add(mam);
     }
 }
 
@@ -222,12 +210,13 @@ impl<'a> Fit<'a> {
     {
         let n = self.sheet.size.rows;
         let half = halves::place(n, 0);
-        let full = half + half;
-        self.residual_maker(&mut room[half..full]);
+        let (mam, rest) = room.split_at_mut(half);
+        let m = &mut rest[..half];
+        self.residual_maker(m);
         if n <= FEW {
-            products::<FEW_WIDE, FEW>(room, n);
+            products::<FEW_WIDE, FEW>(mam, m, n);
         } else {
-            products::<ANY_WIDE, MAX_ROWS>(room, n);
+            products::<ANY_WIDE, MAX_ROWS>(mam, m, n);
         }
     }
 }

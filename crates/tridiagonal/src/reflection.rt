@@ -48,7 +48,12 @@ impl<'a> Block<'a> {
         ensures { p.new ≡ table (λ i. sum_from (p.old ‼ i) (next - r) (λ s. half_entry self.now.a.now (self.now.c + 1 + (r + s)) (self.now.c + 1 + i) ⊗ self.now.v.now ‼ (r + s))) r ++ drop r p.old }
     {
         let start = halves::place(self.c + 1 + r, self.c + 1);
-        halves::add_rows(&mut p[..r], &self.a[start..], self.c + 2 + r, &self.v[r..next]);
+        halves::add_rows(
+            &mut p[..r],
+            &self.a[start..],
+            self.c + 2 + r,
+            &self.v[r..next],
+        );
     }
 
     // Numbers r to next - 1 become the sums of the first `next` terms along their rows of S.
@@ -58,8 +63,18 @@ impl<'a> Block<'a> {
     {
         let start = halves::place(self.c + 1 + r, self.c + 1);
         let corner = start + r;
-        halves::row_dots(&mut p[r..next], &self.a[start..], self.c + 2 + r, &self.v[..r]);
-        halves::add_corner(&mut p[r..next], &self.a[corner..], self.c + 2 + r, &self.v[r..next]);
+        halves::row_dots(
+            &mut p[r..next],
+            &self.a[start..],
+            self.c + 2 + r,
+            &self.v[..r],
+        );
+        halves::add_corner(
+            &mut p[r..next],
+            &self.a[corner..],
+            self.c + 2 + r,
+            &self.v[r..next],
+        );
     }
 
     // S v, a group of rows at a time.

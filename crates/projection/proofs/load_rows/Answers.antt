@@ -1,6 +1,6 @@
 use Rattle.floats.proofs.ListLaws.{row_in}
 use Rattle.floats.proofs.TableLaws.{length-table}
-use Rattle.projection.proofs.ProjectionLaws.{row_at, row_fits, row_copied, loaded-none, loaded-more}
+use Rattle.projection.proofs.ProjectionLaws.{row_fits, row_copied, loaded-none, loaded-more}
 use Prim.Native.Nat.{◌+◌, ◌*◌, ◌≤◌, ◌<◌, ◌-◌}
 use native.Mathlib.Omega.{arith}
 use native.Mathlib.Nat.{le_antisymm}

@@ -1,4 +1,4 @@
--- After i turns the first i rows have got the block, and the second half is as it was. Assumes nothing.
+-- After i turns the first i rows have got the block. Assumes nothing.
 use Rattle.projection.proofs.RoomLaws.{block_to}
 use Prim.Native.Nat.{◌≤◌}
 use mathlib.Core.Path.{◌≡◌}
@@ -6,4 +6,4 @@ use lib.ListN.{length}
 use Rattle.projection.proofs.Rows.add.Given as goal
 
 abbrev pub invariant-loop-i : goal.invariant-loop-i
-invariant-loop-i l = (l.i ≤ l.self.n) × (length l.room ≡ length l.initial.room) × (l.room ≡ block_to l.self.n l.self.block.first l.self.block.count l.initial.room l.i)
+invariant-loop-i l = (l.i ≤ l.self.n) × (length l.mam ≡ length l.initial.mam) × (l.mam ≡ block_to l.self.n l.self.block.first l.self.block.count l.initial.mam l.self.m.now l.i)

@@ -1,11 +1,6 @@
 -- The three ways a reflection goes: two leave the matrix, and in the third block and column are stored one after the other. Assumes nothing.
-use native.Mathlib.Omega.{arith}
-use mathlib.Core.Path.{◌≡◌, ◌∙◌}
-use lib.ListN.{length-set}
-use Rattle.floats.specs.Matrix.{whole}
 use Rattle.floats.specs.Words.{plus_zero}
 use Rattle.floats.proofs.HalfLaws.{triangle-up}
-use Rattle.tridiagonal.specs.Reflection.{column_of}
 use Rattle.tridiagonal.proofs.ImageLaws.{column-of}
 use Rattle.tridiagonal.proofs.UpdateLaws.{still, flat, turned, turn-of}
 use borrow.Author.Rules.{rules}
