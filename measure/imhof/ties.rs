@@ -1,27 +1,25 @@
 //! Finds sets of weights at which two parts share the greatest error to the bit. usage: ties SETS SEED
 //! By chance that is rare: none of 20,000 drawn sets has one (README.md). So one weight of a drawn set is moved until another part comes to be split, the place where
 //! that happens is halved down to neighbouring doubles, and the doubles around it are tried. A line has a set's weights by their bits.
-use imhof::room;
+use imhof::room::Parts;
 
 /// How many doubles on either side are tried.
 const NEAR: u64 = 400;
 
 /// The places of the parts that were split, and how many of these had an equal.
 fn walk(weights: &[f64]) -> (Vec<usize>, usize) {
-    let mut parts = vec![0.0; 8004];
+    let mut room = vec![0.0; 8004];
     let (low, high) = (weights::range::low_end(weights), weights::range::high_end(weights));
-    room::put(&mut parts, 0, imhof::rule::gk15(weights, low, high));
+    let mut parts = Parts { room: &mut room, n: 1 };
+    parts.put(0, imhof::rule::gk15(weights, low, high));
     let (mut places, mut ties) = (Vec::new(), 0);
-    for n in 1..200 {
-        if room::error_sum(&parts, n) <= 5e-12 {
-            break;
-        }
-        let worst = room::worst(&parts, n);
-        let part = room::part_at(&parts, worst);
+    while parts.n < 200 && parts.error_sum() > 5e-12 {
+        let worst = parts.worst();
+        let part = parts.part_at(worst);
         places.push(worst);
-        ties += (0..n).any(|i| i != worst && parts[6003 + i] == part.error) as usize;
+        ties += (0..parts.n).any(|i| i != worst && parts.part_at(i).error == part.error) as usize;
         let halves = imhof::rule::bisect(weights, part);
-        room::replace(&mut parts, n, worst, halves.left, halves.right);
+        parts.replace(worst, halves.left, halves.right);
     }
     (places, ties)
 }
