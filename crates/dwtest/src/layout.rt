@@ -17,7 +17,10 @@ pub fn invert(sheet: Sheet) -> Result<Matrix, TestError>
 {
     let mut l = [[0.0f64; MAX_COLUMNS]; MAX_COLUMNS];
     design::factor(sheet, &mut l)?;
-    check_inverse(design::inverse_of_factor(l, sheet.size.columns), sheet.size.columns)
+    check_inverse(
+        design::inverse_of_factor(l, sheet.size.columns),
+        sheet.size.columns,
+    )
 }
 
 // The normal law, or why it does not serve.

@@ -112,11 +112,7 @@ fn said_of(
 }
 
 // A sheet whose runs are checked: what its columns decide, then what its statistic does. The law is worked out where it is due.
-fn test_design(
-    case: Case,
-    matrix: &mut [f64],
-    parts: &mut [f64],
-) -> Result<Outcome, TestError>
+fn test_design(case: Case, matrix: &mut [f64], parts: &mut [f64]) -> Result<Outcome, TestError>
     ensures value { outcome_in result ≡ design_of room_of case.entry.sheet.run.now case.entry.sheet.size.rows case.entry.sheet.size.columns case.entry.asked case.entry.choice (length matrix.old) (length parts.old) }
     ensures matrix_after { matrix.new ≡ cleared_of (design_touches room_of case.entry.sheet.run.now case.entry.sheet.size.rows case.entry.sheet.size.columns case.entry.choice (length matrix.old) (length parts.old)) (room_of case.entry.sheet.size.rows) matrix.old }
     ensures parts_after { parts.new ≡ cleared_of (design_touches room_of case.entry.sheet.run.now case.entry.sheet.size.rows case.entry.sheet.size.columns case.entry.choice (length matrix.old) (length parts.old)) part_room parts.old }
@@ -178,6 +174,7 @@ pub fn durbin_watson_test(
     ensures parts_after { parts.new ≡ cleared_of (touched residuals.now columns.now k choice (length matrix.old) (length parts.old)) part_room parts.old }
     ensures vouched { Vouched result residuals.now }
 {
-    test(residuals, columns, k, alternative, choice, matrix, parts)
-        .unwrap_or_else(|why| refused(why.into()))
+    test(residuals, columns, k, alternative, choice, matrix, parts).unwrap_or_else(|why| refused(
+        why.into(),
+    ))
 }

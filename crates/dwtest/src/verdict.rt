@@ -85,9 +85,5 @@ pub fn by_spectrum(
     ensures parts_unchanged { drop part_room parts.new ≡ drop part_room parts.old }
 {
     let s = found?;
-    by_imhof(
-        probability(kept, s.count, asked.statistic, parts),
-        s,
-        asked,
-    )
+    by_imhof(probability(kept, s.count, asked.statistic, parts), s, asked)
 }

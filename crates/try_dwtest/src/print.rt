@@ -1,5 +1,5 @@
 // The line of a call.
-use super::rooms::Held;
+use super::rooms::Content;
 use floats::bits::bits_of;
 use lines::LONGEST;
 use outcome::Outcome;
@@ -19,7 +19,7 @@ pub fn print_outcome(rt: &impl Print, i: usize, o: Outcome) -> io::Result<()> {
     print!(rt; " {n} {alternative} {mean:016x} {variance:016x}")
 }
 
-pub fn print_rooms(rt: &impl Print, matrix: Held, parts: Held) -> io::Result<()> {
+pub fn print_rooms(rt: &impl Print, matrix: Content, parts: Content) -> io::Result<()> {
     println!(rt; " {matrix} {parts}")
 }
 

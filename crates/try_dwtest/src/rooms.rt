@@ -46,30 +46,30 @@ fn is_filled(room: &[f64], m: usize) -> bool {
 
 // What a room holds after a call.
 #[derive(Clone, Copy, Debug, PartialEq, Eq)]
-pub enum Held {
+pub enum Content {
     AsFilled,
     Cleared,
     Other,
 }
 
 // The word that a line has for it.
-impl fmt::Display for Held {
+impl fmt::Display for Content {
     fn fmt<W: fmt::Write>(&self, f: &mut fmt::Formatter<W>) -> fmt::Result {
         f.write_str(match self {
-            Held::AsFilled => "0",
-            Held::Cleared => "1",
-            Held::Other => "2",
+            Content::AsFilled => "0",
+            Content::Cleared => "1",
+            Content::Other => "2",
         })
     }
 }
 
 // Every number as `fill` left it; else the first `m` +0 and the others as they were; else anything.
-pub fn held(room: &[f64], m: usize) -> Held {
+pub fn held(room: &[f64], m: usize) -> Content {
     if is_filled(room, 0) {
-        Held::AsFilled
+        Content::AsFilled
     } else if m <= room.len() && room[..m].iter().all(|x| bits_of(*x) == 0) && is_filled(room, m) {
-        Held::Cleared
+        Content::Cleared
     } else {
-        Held::Other
+        Content::Other
     }
 }
