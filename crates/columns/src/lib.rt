@@ -7,7 +7,8 @@ ghost use Rattle.columns.specs.Sheet.{size_of, over, columns_of, too_few_rows, D
 use floats::limits::{MAX_COLUMNS, MAX_ROWS};
 use floats::search::first_bad;
 
-// Rows and columns of a sheet, within the limits of the sheet itself.
+// Rows and columns of a sheet, within the limits of the sheet itself. With no ghost field: definitions write such a record by its two numbers, and
+// that it is within the limits is part of Sheet's fact.
 #[derive(Clone, Copy)]
 pub struct SheetSize {
     pub rows: usize,

@@ -59,7 +59,7 @@ pub fn factor(sheet: Sheet, l: &mut Matrix) -> Result<(), FailedPivot>
     Ok(())
 }
 
-// (X'X)^-1 = L^-T L^-1 from the factor L of k columns.
+// (X'X)^-1 = L^-T L^-1 from the factor L of k columns. Matrix and k stay two: where a matrix travels so does the sheet, whose size has k already.
 #[tactic(auto, unfolding(crate::specs::Inverse::inverse_from))]
 pub fn inverse_of_factor(l: Matrix, k: usize) -> Matrix
     requires { k ≤ max_columns }

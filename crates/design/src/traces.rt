@@ -19,7 +19,7 @@ pub fn column_products(u: &[f64], v: &[f64], n: usize, i: usize, j: usize) -> f6
     floats::sums::sum_products(u, i * n, v, j * n, n)
 }
 
-// U' V, each of columns of that size.
+// U' V, each of columns of that size. No type for both: u is the sheet's run once, and once the lent room, which is longer.
 pub fn cross(u: &[f64], v: &[f64], size: SheetSize) -> Matrix
     requires { (size.columns ≤ max_columns) × (size.columns * size.rows ≤ length u.now) × (size.columns * size.rows ≤ length v.now) }
     ensures { result ≡ matrix size.columns (λ i j. sum_products u.now (i * size.rows) v.now (j * size.rows) size.rows) }

@@ -159,7 +159,8 @@ fn test(
 }
 
 // The test. `columns` is k columns of as many numbers as there are residuals, one after another. The rooms are lent for the exact path: n (n + 1) numbers
-// and imhof's PART_ROOM. A call that uses them leaves those numbers +0; every other call changes neither room.
+// and imhof's PART_ROOM. A call that uses them leaves those numbers +0; every other call changes neither room. Its parameters stay seven: callers,
+// dwexport's in C among them, know it so.
 pub fn durbin_watson_test(
     residuals: &[f64],
     columns: &[f64],

@@ -82,7 +82,7 @@ pub fn ln_1p(x: f64) -> f64
     ln_1p_by(&POINTS, x)
 }
 
-// The same with the table lent.
+// The same with the table lent. Kept beside ln_1p, as atan_by beside atan: docs name the four, and each pair shares its steps.
 #[tactic(auto, unfolding(crate::specs::Ln::ln1p_by))]
 pub fn ln_1p_by(points: &[f64; 384], x: f64) -> f64
     ensures { result ≡ ln1p_by points.now x }

@@ -61,7 +61,8 @@ fn cos_kernel(r: f64, c: f64) -> f64
     w + (((1.0 - w) - h) + (z * z * horner(&COS, z) + r * c))
 }
 
-// The sine of q quarter turns and r - c. Both kernels are worked out, so that a loop of it has no branch.
+// The sine of q quarter turns and r - c. Both kernels are worked out, so that a loop of it has no branch. q is a number and no kind: turns are
+// counted with it.
 fn quarter_turns(q: u64, r: f64, c: f64) -> f64
     requires { q < 4 }
     ensures { result ≡ quarter_turns q r c }

@@ -8,21 +8,14 @@ ghost use Rattle.floats.specs.Bits.{little_endian, float_at};
 pub fn bits_of(x: f64) -> u64
     ensures { result ≡ to_bits binary64 x }
 {
-    if x == x {
-        f64::to_bits(x)
-    } else {
-        0x7ff8_0000_0000_0000
-    }
+    std::num::f64_to_bits_with_nan(x)
 }
 
 // The float with the pattern b, a NaN's too.
 pub fn of_bits(b: u64) -> f64
     ensures { result ≡ of_bits binary64 b }
 {
-    if b % 0x8000_0000_0000_0000 > 0x7ff0_0000_0000_0000 {
-        return 0.0 / 0.0;
-    }
-    f64::from_bits(b)
+    std::num::f64_from_bits_with_nan(b)
 }
 
 // The number that `k` bytes of `s` from `i` on stand for, the least byte first.
@@ -31,6 +24,7 @@ pub fn little_endian(s: &[u8], i: usize, k: usize) -> u64
     ensures { result ≡ little_endian k s.now i }
 {
     let mut n: u64 = 0;
+    // kept as a loop over places: of the items of s[i..i + k].iter().rev() a proof knows too little to bound the total
     for t in (0..k).rev() {
         n = n * 256 + u64::from(s[i + t]);
     }

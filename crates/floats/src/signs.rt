@@ -17,6 +17,7 @@ pub fn is_finite(x: f64) -> bool
 pub fn is_minus(x: f64) -> bool
     ensures { result ≡ minus x }
 {
+    // beside f64::is_sign_negative, which asks that x is no NaN: this is total
     super::bits::bits_of(x) >= 0x8000_0000_0000_0000
 }
 
@@ -31,6 +32,7 @@ pub fn abs(x: f64) -> f64
 pub fn copysign(x: f64, y: f64) -> f64
     ensures { result ≡ copysign_of x y }
 {
+    // beside f64::copysign, which asks the same of y
     if is_minus(y) { -abs(x) } else { abs(x) }
 }
 
@@ -38,27 +40,14 @@ pub fn copysign(x: f64, y: f64) -> f64
 pub fn max(x: f64, y: f64) -> f64
     ensures { result ≡ max_of x y }
 {
-    if x < y {
-        return y;
-    }
-    if x != x {
-        return y;
-    }
-    x
+    // beside f64::max: of two equal numbers its promise says only that it is one of them, max_of says which
+    if x < y || x.is_nan() { y } else { x }
 }
 
 // Whether x comes before y in the order of f64::total_cmp, neither being a NaN.
 pub fn comes_before(x: f64, y: f64) -> bool
     ensures { result ≡ before x y }
 {
-    if x < y {
-        return true;
-    }
-    if x != y {
-        return false;
-    }
-    if is_minus(x) {
-        return !is_minus(y);
-    }
-    false
+    // beside f64::total_cmp, which asks that there is no NaN: this is total
+    x < y || (x == y && is_minus(x) && !is_minus(y))
 }

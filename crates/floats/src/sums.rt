@@ -2,7 +2,7 @@
 ghost use Rattle.std.specs.Prelude.{◌≡◌, ◌+◌, ◌≤◌, length};
 ghost use Rattle.floats.specs.Sums.{sum_run, sum_squares, sum_products};
 
-// The numbers of `xs`.
+// The numbers of `xs`. The sums are three folds of a line each: a generic one over the term would be longer than they are.
 pub fn sum(xs: &[f64]) -> f64
     ensures { result ≡ sum_run xs.now }
 {

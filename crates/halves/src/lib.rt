@@ -26,13 +26,7 @@ fn own_numbers(i: usize, from: usize, k: usize) -> usize
     requires { (i < max_rows) × (from + k ≤ max_rows) }
     ensures { result ≡ min k (i + 1 - from) }
 {
-    if i + 1 <= from {
-        0
-    } else if from + k <= i + 1 {
-        k
-    } else {
-        i + 1 - from
-    }
+    k.min((i + 1).saturating_sub(from))
 }
 
 // Down column i, from row `from` on, which stands below row i.
@@ -105,6 +99,7 @@ fn eight_dots(xs: &[f64], stride: usize, v: &[f64]) -> [f64; 8]
     requires { (stride ≤ max_rows) × (ReachRows 8 stride (length v.now) (length xs.now)) }
     ensures { result ≡ table (λ s. sum_of (length v.now) (λ j. xs.now ‼ (row_start stride s + j) ⊗ v.now ‼ j)) 8 }
 {
+    // eight names and no array: they are summed in the order in which the compiler finds no address to work out
     let mut a = -0.0f64;
     let mut b = -0.0f64;
     let mut c = -0.0f64;

@@ -44,7 +44,7 @@ fn add_near(a: f64, minus: bool, u: &Lanes, angles: &mut Lanes, logs: &mut Lanes
     }
 }
 
-// Adds the terms of any weight w, one u after another.
+// Adds the terms of any weight w, one u after another. Kept beside add_near: that one has no branch, and asks that each u is near a point.
 fn add_any(w: f64, u: &Lanes, angles: &mut Lanes, logs: &mut Lanes)
     ensures angles_after { angles.new ≡ added_to (λ x. atan_of (w ⊗ x)) u.now angles.old }
     ensures logs_after { logs.new ≡ added_to (λ x. ln1p_of (square_of (w ⊗ x))) u.now logs.old }

@@ -71,7 +71,8 @@ pub struct Leaving {
     pub settled: bool,
 }
 
-// What the test answers. A refusal holds its number, its place and zeros.
+// What the test answers. A refusal holds its number, its place and zeros: `refusal` keeps the two numbers, of which document 01's table and the
+// theorems on refusals speak.
 #[derive(Clone, Copy)]
 pub struct Outcome {
     pub refusal: Refusal,
@@ -98,7 +99,7 @@ pub const LEAST_ROWS: usize = 3;
 // The default is exact below so many rows.
 pub const EXACT_BELOW: usize = 100;
 
-// The alternative of a code: 0 greater, 1 less, 2 (and any other) two-sided.
+// The alternative of a code: 0 greater, 1 less, 2 (and any other) two-sided. Kept beside TryFrom, as `choice_of` is: it is total by its promise.
 pub fn alternative_of(code: u64) -> Alternative
     ensures { result ≡ alternative_of code }
 {

@@ -94,7 +94,12 @@ fn refine(weights: &[f64], lo: f64, hi: f64, parts: &mut [Part]) -> Result<Integ
 }
 
 // The integral from lo to hi over a lent list of records. Past the room check its first MOST_PARTS records end as zeros, and the others stay.
-pub fn quadrature(weights: &[f64], lo: f64, hi: f64, parts: &mut [Part]) -> Result<Integral, RecordsError>
+pub fn quadrature(
+    weights: &[f64],
+    lo: f64,
+    hi: f64,
+    parts: &mut [Part],
+) -> Result<Integral, RecordsError>
     ensures { (result ≡ answer_of (length parts.old) (quadrature_of (stage_after most_bisections (integrand_of weights.now) lo hi))) × (parts.new ≡ cleared_of parts.old) }
 {
     if parts.len() < MOST_PARTS {

@@ -30,6 +30,7 @@ fn root_of_normal(x: f64) -> f64
 pub fn sqrt(x: f64) -> f64
     ensures { result ≡ sqrt_of x }
 {
+    // two tests: a match on partial_cmp would say no more plainly that the zeros and a NaN are left
     if x < 0.0 {
         return f64::NAN;
     }

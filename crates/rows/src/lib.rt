@@ -47,7 +47,8 @@ pub fn add_one(row: &mut [f64], xs: &[f64], w: f64)
 }
 
 // x plus four terms: number `at` of `xs` times number s of `w`, and so on, `stride` on in the one and 1 in the other.
-// They are read in an order in which the compiler finds no address to work out in a loop.
+// They are read in an order in which the compiler finds no address to work out in a loop. Kept beside `halves::four_steps`: one function over
+// the places would ask a clause of every closure that gives them, and be longer than both.
 fn four_terms(x: f64, xs: &[f64], at: usize, stride: usize, w: &[f64], s: usize) -> f64
     requires { (at + 3 * stride < length xs.now) × (s + 4 ≤ length w.now) }
     ensures { result ≡ sum_from x 4 (λ t. xs.now ‼ (at + t * stride) ⊗ w.now ‼ (s + t)) }
@@ -82,6 +83,7 @@ pub fn add_terms(row: &mut [f64], xs: &[f64], stride: usize, w: &[f64])
 {
     let k = w.len();
     let mut t = 0usize;
+    // kept as a while: a turn takes sixteen runs, eight or one
     while t < k {
         if stride == MAX_ROWS && t + 16 <= k {
             add_next::<4>(row, xs, MAX_ROWS, w, t);

@@ -101,7 +101,8 @@ impl FileRefusal {
     }
 }
 
-// Entry `i` of the contents.
+// Entry `i` of the contents. Kept by `little_endian` in place of from_le_bytes: the theorems on files read its definition, which takes 5 bytes and
+// cut numbers too.
 pub fn entry_at(file: &[u8], i: usize) -> Entry
     requires { entry_place (i + 1) ≤ length file.now }
     ensures { result ≡ entry_of file.now i }

@@ -6,5 +6,5 @@ use Rattle.integrand.proofs.integrands.Given as goal
 abbrev pub invariant-loop-w : goal.invariant-loop-w
 invariant-loop-w l = record {
   angles : l.angles ≡ sums_at angle_term l.weights l.s l.w-index;
-  logs : l.logs ≡ sums_at log_term l.weights l.s l.w-index
+  logs : l.logs ≡ sums_at log_term l.weights l.s l.w-index;
 }

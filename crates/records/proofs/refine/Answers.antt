@@ -49,7 +49,7 @@ loop-n-init c =
     record {
       bisections = ap (λ (t : Tally). t.bisections + 1) made;
       evaluations = ap (λ (t : Tally). t.evaluations + rule_size) made;
-      worked = started f c.args.lo c.args.hi ys c.gk15-whole.result c.gk15-whole.ensures true (sym c.is_finite.ensures ∙ c.if-not-is_finite.false) ∙ ap (λ (t : Tally). work (going t) (set ys 0 c.gk15-whole.result)) (sym made)
+      worked = started f c.args.lo c.args.hi ys c.gk15-whole.result c.gk15-whole.ensures true (sym c.is_finite.ensures ∙ c.if-not-is_finite.false) ∙ ap (λ (t : Tally). work (going t) (set ys 0 c.gk15-whole.result)) (sym made);
     }
 
 pub returns-then-look : goal.returns-then-look
@@ -93,7 +93,7 @@ loop-n-preserved c =
     record {
       bisections = ap (λ (t : Tally). t.bisections + 1) c.with_bisection-tally.ensures ∙ ap (λ (n : ℕ). n + 1) l.invariant.bisections;
       evaluations = ap (λ (t : Tally). t.evaluations + rule_size) c.with_bisection-tally.ensures ∙ omega (arith, l.invariant.evaluations);
-      worked = ap (after f c.args.lo c.args.hi ys) back ∙ next ∙ ap₂ (λ (t : Tally) (ps : List Part). work (going t) ps) (sym c.with_bisection-tally.ensures) split
+      worked = ap (after f c.args.lo c.args.hi ys) back ∙ next ∙ ap₂ (λ (t : Tally) (ps : List Part). work (going t) ps) (sym c.with_bisection-tally.ensures) split;
     }
 
 pub returns : goal.returns

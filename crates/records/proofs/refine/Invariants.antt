@@ -9,5 +9,5 @@ abbrev pub invariant-loop-n : goal.invariant-loop-n
 invariant-loop-n l = record {
   bisections : l.tally.bisections + 1 ≡ l.n;
   evaluations : l.tally.evaluations + rule_size ≡ 2 * rule_size * l.n;
-  worked : work_after (l.n - 1) (integrand_of l.weights) l.lo l.hi l.fn.parts ≡ work (going l.tally) l.parts
+  worked : work_after (l.n - 1) (integrand_of l.weights) l.lo l.hi l.fn.parts ≡ work (going l.tally) l.parts;
 }

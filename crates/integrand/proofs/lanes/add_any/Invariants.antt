@@ -9,5 +9,5 @@ use Rattle.integrand.proofs.lanes.add_any.Given as goal
 abbrev pub invariant-loop-j : goal.invariant-loop-j
 invariant-loop-j l = record {
   angles : l.angles ≡ filled (λ j. l.initial.angles ‼ j ⊕ atan_of (l.w ⊗ l.u ‼ j)) l.j l.initial.angles;
-  logs : l.logs ≡ filled (λ j. l.initial.logs ‼ j ⊕ ln1p_of (square_of (l.w ⊗ l.u ‼ j))) l.j l.initial.logs
+  logs : l.logs ≡ filled (λ j. l.initial.logs ‼ j ⊕ ln1p_of (square_of (l.w ⊗ l.u ‼ j))) l.j l.initial.logs;
 }

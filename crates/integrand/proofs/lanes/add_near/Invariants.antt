@@ -11,5 +11,5 @@ use Rattle.integrand.proofs.lanes.add_near.Given as goal
 abbrev pub invariant-loop-j : goal.invariant-loop-j
 invariant-loop-j l = record {
   angles : l.angles ≡ filled (λ j. l.initial.angles ‼ j ⊕ cond l.minus (neg (angle_by points (l.a ⊗ l.u ‼ j))) (angle_by points (l.a ⊗ l.u ‼ j))) l.j l.initial.angles;
-  logs : l.logs ≡ filled (λ j. l.initial.logs ‼ j ⊕ log_by points (square_of (l.a ⊗ l.u ‼ j))) l.j l.initial.logs
+  logs : l.logs ≡ filled (λ j. l.initial.logs ‼ j ⊕ log_by points (square_of (l.a ⊗ l.u ‼ j))) l.j l.initial.logs;
 }

@@ -25,9 +25,10 @@ loop-t-preserved c = let args = c.args in
     let t = c.loop-t.t in
     let n = length args.out.now in
     let p : n - (t - 1) ≡ n - t + 1 = omega arith in
-    rw (p, add-one (n - t))
-    (rw (c.loop-t.invariant.0, pow-suc) (div-div-eq-div-mul args.n (args.base ^ (n - t)) args.base),
-    rw (c.loop-t.invariant.1, c.digit.ensures, c.loop-t.invariant.0) (before t _ _ args.out.now (omega arith) (omega arith)))
+    rw (p, add-one (n - t)) (
+      rw (c.loop-t.invariant.0, pow-suc) (div-div-eq-div-mul args.n (args.base ^ (n - t)) args.base),
+      rw (c.loop-t.invariant.1, c.digit.ensures, c.loop-t.invariant.0) (before t _ _ args.out.now (omega arith) (omega arith)),
+    )
 
 pub returns : goal.returns
 returns c = let n = length c.args.out.now in
