@@ -32,6 +32,14 @@ pub mod num {
         nearest_i32_to_f32 i32, f32;
         nearest_usize_to_f64 usize, f64;
     }
+
+    /// The pattern of x; the quiet one with no other bit for every NaN.
+    pub fn f64_to_bits_with_nan(x: f64) -> u64 {
+        if x.is_nan() { 0x7ff8_0000_0000_0000 } else { x.to_bits() }
+    }
+    pub fn f64_from_bits_with_nan(b: u64) -> f64 {
+        f64::from_bits(b)
+    }
 }
 
 pub mod alloc {
