@@ -23,24 +23,6 @@ use floats::limits::{MAX_COLUMNS, MAX_ROWS};
 
 mod matrix;
 
-// Row t of A M: three rows of M make it. `before` and `here` hold rows t - 1 and t of M, and are then a row on, as far as there is one.
-fn differences(w: &mut [f64], m: &[f64], n: usize, t: usize, before: &mut [f64], here: &mut [f64])
-    requires { (length w.old ≡ n) × (Square n m.now) × (t < n) × (before.old ≡ table (λ j. half_entry m.now (t - 1) j) n) × (here.old ≡ table (λ j. half_entry m.now t j) n) }
-    ensures w_after { w.new ≡ table (λ j. difference_at (λ s. half_entry m.now s j) n t) n }
-    ensures before_after { t + 1 < n → (before.new ≡ table (λ j. half_entry m.now t j) n) × (here.new ≡ table (λ j. half_entry m.now (t + 1) j) n) }
-{
-    if t > 0 {
-        matrix::set_difference(w, here, before);
-    } else {
-        rows::fill(w, 0.0);
-    }
-    if t + 1 < n {
-        rows::copy(before, here);
-        halves::copy_row(here, m, t + 1, 0);
-        matrix::add_difference(w, before, here);
-    }
-}
-
 // Terms of a sum over the rows of M: `count` of them, from term `first` on.
 #[derive(Clone, Copy)]
 struct Block {
@@ -48,62 +30,89 @@ struct Block {
     count: usize,
 }
 
-// The rows of A M that a block of terms takes, each `stride` on from the one before in `w`; `before` and `here` are room for two rows of M.
-fn load_rows(
-    w: &mut [f64],
-    stride: usize,
-    m: &[f64],
+// M, of n rows, by its lower triangle.
+#[derive(Clone, Copy)]
+struct Maker<'a> {
+    m: &'a [f64],
     n: usize,
-    before: &mut [f64],
-    here: &mut [f64],
-    block: Block,
-)
-    requires { (n ≤ stride) × (block.count * stride ≤ length w.old) × (Square n m.now) × (block.first < n) × (block.first + block.count ≤ n) × (length before.old ≡ n) × (length here.old ≡ n) }
-    ensures { Loaded stride n block.first m.now block.count w.new }
-{
-    let t = block.first;
-    let k = block.count;
-    halves::copy_row(before, m, t.saturating_sub(1), 0);
-    halves::copy_row(here, m, t, 0);
-    // kept as an index loop: after chunks_mut a proof knows no number of w
-    for s in 0..k {
-        let start = s * stride;
-        let end = start + n;
-        differences(&mut w[start..end], m, n, t + s, before, here);
+    ghost square: { Square n m.now },
+}
+
+impl<'a> Maker<'a> {
+    // Row t of A M: three rows of M make it. `before` and `here` hold rows t - 1 and t of M, and are then a row on, as far as there is one.
+    fn differences(&self, w: &mut [f64], t: usize, before: &mut [f64], here: &mut [f64])
+        requires { (length w.old ≡ self.now.n) × (t < self.now.n) × (before.old ≡ table (λ j. half_entry self.now.m.now (t - 1) j) self.now.n) × (here.old ≡ table (λ j. half_entry self.now.m.now t j) self.now.n) }
+        ensures w_after { w.new ≡ table (λ j. difference_at (λ s. half_entry self.now.m.now s j) self.now.n t) self.now.n }
+        ensures before_after { t + 1 < self.now.n → (before.new ≡ table (λ j. half_entry self.now.m.now t j) self.now.n) × (here.new ≡ table (λ j. half_entry self.now.m.now (t + 1) j) self.now.n) }
+    {
+        if t > 0 {
+            matrix::set_difference(w, here, before);
+        } else {
+            rows::fill(w, 0.0);
+        }
+        if t + 1 < self.n {
+            rows::copy(before, here);
+            halves::copy_row(here, self.m, t + 1, 0);
+            matrix::add_difference(w, before, here);
+        }
+    }
+
+    // The rows of A M that a block of terms takes, each `stride` on from the one before in `w`; `before` and `here` are room for two rows of M.
+    fn load_rows(
+        &self,
+        w: &mut [f64],
+        stride: usize,
+        before: &mut [f64],
+        here: &mut [f64],
+        block: Block,
+    )
+        requires { (self.now.n ≤ stride) × (block.count * stride ≤ length w.old) × (block.first < self.now.n) × (block.first + block.count ≤ self.now.n) × (length before.old ≡ self.now.n) × (length here.old ≡ self.now.n) }
+        ensures { Loaded stride self.now.n block.first self.now.m.now block.count w.new }
+    {
+        let n = self.n;
+        let t = block.first;
+        let k = block.count;
+        halves::copy_row(before, self.m, t.saturating_sub(1), 0);
+        halves::copy_row(here, self.m, t, 0);
+        // kept as an index loop: after chunks_mut a proof knows no number of w
+        for s in 0..k {
+            let start = s * stride;
+            let end = start + n;
+            self.differences(&mut w[start..end], t + s, before, here);
+        }
     }
 }
 
-// A block of terms of M A M: the rows of A M that it takes, in `w`, each `stride` on from the one before, and M, of n rows.
+// A block of terms of M A M: M, and in `w` the rows of A M that it takes, each `stride` on from the one before.
 #[derive(Clone, Copy)]
 struct Rows<'a> {
+    maker: Maker<'a>,
     w: &'a [f64],
     stride: usize,
-    m: &'a [f64],
-    n: usize,
     block: Block,
-    ghost within: { (n ≤ stride) × (block.count * stride ≤ length w.now) × (block.first + block.count ≤ n) × (block.count ≤ 16) },
-    ghost loaded: { (Square n m.now) × (Loaded stride n block.first m.now block.count w.now) },
+    ghost within: { (maker.n ≤ stride) × (block.count * stride ≤ length w.now) × (block.first + block.count ≤ maker.n) × (block.count ≤ 16) },
+    ghost loaded: { Loaded stride maker.n block.first maker.m.now block.count w.now },
 }
 
 impl<'a> Rows<'a> {
     // Adds the terms to row i of M A M, up to the diagonal: the rows, each times its number of row i of M.
     fn add_to_row(&self, mam: &mut [f64], i: usize)
-        requires { (Square self.now.n mam.old) × (i < self.now.n) }
-        ensures { mam.new ≡ half (λ r c. cond (eqb r i) (sum_from (half_entry mam.old r c) self.now.block.count (λ s. self.now.w.now ‼ (s * self.now.stride + c) ⊗ half_entry self.now.m.now i (self.now.block.first + s))) (half_entry mam.old r c)) self.now.n }
+        requires { (Square self.now.maker.n mam.old) × (i < self.now.maker.n) }
+        ensures { mam.new ≡ half (λ r c. cond (eqb r i) (sum_from (half_entry mam.old r c) self.now.block.count (λ s. self.now.w.now ‼ (s * self.now.stride + c) ⊗ half_entry self.now.maker.m.now i (self.now.block.first + s))) (half_entry mam.old r c)) self.now.maker.n }
     {
         let k = self.block.count;
         let mut u = [0.0f64; 16];
-        halves::copy_row(&mut u[..k], self.m, i, self.block.first);
+        halves::copy_row(&mut u[..k], self.maker.m, i, self.block.first);
         matrix::add_to_row(mam, i, self.w, self.stride, &u[..k]);
     }
 
     // Adds the terms to every entry of M A M.
     fn add(&self, mam: &mut [f64])
-        requires { Square self.now.n mam.old }
-        ensures { mam.new ≡ half (λ i j. sum_from (half_entry mam.old i j) self.now.block.count (λ s. half_entry self.now.m.now i (self.now.block.first + s) ⊗ difference_at (λ r. half_entry self.now.m.now r j) self.now.n (self.now.block.first + s))) self.now.n }
+        requires { Square self.now.maker.n mam.old }
+        ensures { mam.new ≡ half (λ i j. sum_from (half_entry mam.old i j) self.now.block.count (λ s. half_entry self.now.maker.m.now i (self.now.block.first + s) ⊗ difference_at (λ r. half_entry self.now.maker.m.now r j) self.now.maker.n (self.now.block.first + s))) self.now.maker.n }
     {
         // kept as an index loop: i is a row of M as well as of M A M, and each row of a triangle is a number longer than the one before
-        for i in 0..self.n {
+        for i in 0..self.maker.n {
             self.add_to_row(mam, i);
         }
     }
@@ -115,10 +124,11 @@ const TERMS: usize = 16;
 // M A M, from M. It has room of its own: of W numbers for the sixteen rows of a block, which stand N apart, and of N for
 // each of two rows of M. To clear much of it costs a small matrix more than the products do; at the stride of the largest
 // `rows::add_terms` takes sixteen terms a pass.
-fn products<const W: usize, const N: usize>(mam: &mut [f64], m: &[f64], n: usize)
-    requires { (Square n mam.old) × (Square n m.now) × (n ≤ N) × (16 * N ≤ W) × (W ≤ 16 * max_rows) }
-    ensures { mam.new ≡ half (λ i j. sum_of n (λ t. half_entry m.now i t ⊗ difference_at (λ s. half_entry m.now s j) n t)) n }
+fn products<const W: usize, const N: usize>(mam: &mut [f64], maker: Maker)
+    requires { (Square maker.n mam.old) × (maker.n ≤ N) × (16 * N ≤ W) × (W ≤ 16 * max_rows) }
+    ensures { mam.new ≡ half (λ i j. sum_of maker.entry.n (λ t. half_entry maker.entry.m.now i t ⊗ difference_at (λ s. half_entry maker.entry.m.now s j) maker.entry.n t)) maker.entry.n }
 {
+    let n = maker.n;
     let mut w = [0.0f64; W];
     let mut before = [0.0f64; N];
     let mut here = [0.0f64; N];
@@ -126,12 +136,11 @@ fn products<const W: usize, const N: usize>(mam: &mut [f64], m: &[f64], n: usize
     for first in (0..n).step_by(TERMS) {
         let count = TERMS.min(n - first);
         let block = Block { first, count };
-        load_rows(&mut w, N, m, n, &mut before[..n], &mut here[..n], block);
+        maker.load_rows(&mut w, N, &mut before[..n], &mut here[..n], block);
         let rows = Rows {
+            maker,
             w: &w,
             stride: N,
-            m,
-            n,
             block,
         };
         rows.add(mam);
@@ -213,10 +222,11 @@ impl<'a> Fit<'a> {
         let (mam, rest) = room.split_at_mut(half);
         let m = &mut rest[..half];
         self.residual_maker(m);
+        let maker = Maker { m, n };
         if n <= FEW {
-            products::<FEW_WIDE, FEW>(mam, m, n);
+            products::<FEW_WIDE, FEW>(mam, maker);
         } else {
-            products::<ANY_WIDE, MAX_ROWS>(mam, m, n);
+            products::<ANY_WIDE, MAX_ROWS>(mam, maker);
         }
     }
 }

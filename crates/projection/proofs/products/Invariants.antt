@@ -7,7 +7,7 @@ use lib.ListN.{length}
 use Rattle.projection.proofs.products.Given as goal
 
 abbrev pub invariant-loop-first : goal.invariant-loop-first
-invariant-loop-first g l = (length l.mam ≡ triangle l.n) × (length l.w ≡ g.row.W) × (length l.before ≡ g.row.N) × (length l.here ≡ g.row.N) × (l.mam ≡ product_to l.n l.m (min l.first l.n))
+invariant-loop-first g l = (length l.mam ≡ triangle l.maker.n) × (length l.w ≡ g.row.W) × (length l.before ≡ g.row.N) × (length l.here ≡ g.row.N) × (l.mam ≡ product_to l.maker.n l.maker.m.now (min l.first l.maker.n))
 
 abbrev pub decreases-loop-first : goal.decreases-loop-first
-decreases-loop-first g l = l.n - l.first
+decreases-loop-first g l = l.maker.n - l.first

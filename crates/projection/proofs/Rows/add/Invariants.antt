@@ -6,4 +6,4 @@ use lib.ListN.{length}
 use Rattle.projection.proofs.Rows.add.Given as goal
 
 abbrev pub invariant-loop-i : goal.invariant-loop-i
-invariant-loop-i l = (l.i ≤ l.self.n) × (length l.mam ≡ length l.initial.mam) × (l.mam ≡ block_to l.self.n l.self.block.first l.self.block.count l.initial.mam l.self.m.now l.i)
+invariant-loop-i l = (l.i ≤ l.self.maker.n) × (length l.mam ≡ length l.initial.mam) × (l.mam ≡ block_to l.self.maker.n l.self.block.first l.self.block.count l.initial.mam l.self.maker.m.now l.i)

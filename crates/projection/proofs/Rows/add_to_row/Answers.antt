@@ -14,7 +14,7 @@ slice_bounds-copy_row-end c = sym (array-lent _ _ c.args.self.now.within.3)
 pub copy_row-requires : goal.copy_row-requires
 copy_row-requires c = let s = c.args.self.now in
     let a = array-lent 16 s.block.count s.within.3 in
-    let m = s.loaded.0 in (
+    let m = s.maker.square in (
       omega (arith, m.1, c.requires.1),
       omega (arith, a, m.1, s.within.2),
       omega (arith, m.0, triangle-apart c.requires.1, triangle-more c.args.i),
@@ -31,8 +31,8 @@ pub add_to_row-requires : goal.add_to_row-requires
 add_to_row-requires c = let s = c.args.self.now in (
   omega (arith, c.requires.0.1, c.requires.1),
   omega (arith, c.requires.0.0, triangle-apart c.requires.1, triangle-more c.args.i),
-  rw (ap length (array-filled 16 s.block.count _ c.copy_row.new.row s.within.3 c.copy_row.ensures) ∙ length-table _ s.block.count) (reach-rows s.n s.stride c.args.i s.block.count (length s.w.now) c.requires.1 s.within.0 s.within.1),
+  rw (ap length (array-filled 16 s.block.count _ c.copy_row.new.row s.within.3 c.copy_row.ensures) ∙ length-table _ s.block.count) (reach-rows s.maker.n s.stride c.args.i s.block.count (length s.w.now) c.requires.1 s.within.0 s.within.1),
 )
 
 pub returns : goal.returns
-returns c = let s = c.args.self.now in c.add_to_row.ensures ∙ block-turn s.n s.block.first s.block.count c.args.mam.now s.m.now s.stride c.args.i s.w.now _ c.requires.0.0 c.requires.1 (array-filled 16 s.block.count _ c.copy_row.new.row s.within.3 c.copy_row.ensures)
+returns c = let s = c.args.self.now in c.add_to_row.ensures ∙ block-turn s.maker.n s.block.first s.block.count c.args.mam.now s.maker.m.now s.stride c.args.i s.w.now _ c.requires.0.0 c.requires.1 (array-filled 16 s.block.count _ c.copy_row.new.row s.within.3 c.copy_row.ensures)

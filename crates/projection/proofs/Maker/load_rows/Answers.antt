@@ -7,26 +7,26 @@ use native.Mathlib.Nat.{le_antisymm}
 use mathlib.Core.Path.{◌≡◌, refl, ap, ◌∙◌}
 use lib.ListN.{length}
 use borrow.Author.Rules.{rules}
-use Rattle.projection.proofs.load_rows.Goals as goal
+use Rattle.projection.proofs.Maker.load_rows.Goals as goal
 
 -- row s ends within w
 row : (c : goal.In-loop-s) → let args = c.args in c.loop-s.s * args.stride + args.stride ≤ args.block.count * args.stride
 row c = row_in _ c.loop-s-test.true
 
 pub copy_row-requires : goal.copy_row-requires
-copy_row-requires c = let args = c.args in let pre = c.requires in row_fits args.m.now args.before.now args.n _ pre.2.0 pre.2.1 (omega (arith, pre.3)) pre.5
+copy_row-requires c = let args = c.args in let pre = c.requires in row_fits args.self.now.m.now args.before.now args.self.now.n _ args.self.now.square.0 args.self.now.square.1 (omega (arith, pre.2)) pre.4
 
 pub copy_row-requires-2 : goal.copy_row-requires-2
-copy_row-requires-2 c = let args = c.args in let pre = c.requires in row_fits args.m.now args.here.now args.n _ pre.2.0 pre.2.1 pre.3 pre.6
+copy_row-requires-2 c = let args = c.args in let pre = c.requires in row_fits args.self.now.m.now args.here.now args.self.now.n _ args.self.now.square.0 args.self.now.square.1 pre.2 pre.5
 
 -- row 0 has none before it, and is taken for that
 pub loop-s-init : goal.loop-s-init
 loop-s-init c = let args = c.args in
     let pre = c.requires in
-    let before = rw c.saturating_sub.ensures at (c.copy_row.ensures ∙ row_copied args.m.now args.n _ _ pre.5) in
-    let here = c.copy_row-2.ensures ∙ row_copied args.m.now args.n args.block.first _ pre.6 in
+    let before = rw c.saturating_sub.ensures at (c.copy_row.ensures ∙ row_copied args.self.now.m.now args.self.now.n _ _ pre.4) in
+    let here = c.copy_row-2.ensures ∙ row_copied args.self.now.m.now args.self.now.n args.block.first _ pre.5 in
     let z : args.block.first + 0 ≡ args.block.first = omega arith in
-    (omega arith, refl, ap length before ∙ length-table _ _, ap length here ∙ length-table _ _, (λ h. rw z (before, here)), loaded-none args.stride args.n args.block.first args.m.now args.w.now)
+    (omega arith, refl, ap length before ∙ length-table _ _, ap length here ∙ length-table _ _, (λ h. rw z (before, here)), loaded-none args.stride args.self.now.n args.block.first args.self.now.m.now args.w.now)
 
 pub overflow_mul-start : goal.overflow_mul-start
 overflow_mul-start c = omega (arith, row c)
@@ -44,10 +44,10 @@ pub differences-requires : goal.differences-requires
 differences-requires c = let args = c.args in
     let pre = c.requires in
     let loop = c.loop-s in
-    let b : args.block.first + loop.s < args.n = omega (arith, pre.4) in
+    let b : args.block.first + loop.s < args.self.now.n = omega (arith, pre.3) in
     let h = row_in args.stride c.loop-s-test.true in
     let rows = loop.invariant.4 b in
-    (search rules, pre.2, b, rows.0, rows.1)
+    (search rules, b, rows.0, rows.1)
 
 pub loop-s-preserved : goal.loop-s-preserved
 loop-s-preserved c = let args = c.args in
@@ -61,7 +61,7 @@ loop-s-preserved c = let args = c.args in
       search rules,
       search rules,
       rw (z, y) differences.ensures.before_after,
-      loaded-more args.stride args.n args.block.first args.m.now loop.s loop.w differences.new.w (search rules) (omega arith) loop.invariant.5 differences.ensures.w_after,
+      loaded-more args.stride args.self.now.n args.block.first args.self.now.m.now loop.s loop.w differences.new.w (search rules) (omega arith) loop.invariant.5 differences.ensures.w_after,
     )
 
 pub returns : goal.returns
