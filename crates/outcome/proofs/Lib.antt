@@ -1,3 +1,4 @@
 pub mod PassLaws
 pub mod Bounds
+pub mod RoomLaws
 pub mod Single

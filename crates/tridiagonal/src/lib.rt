@@ -13,7 +13,7 @@ mod vectors;
 use floats::limits::MAX_ROWS;
 
 // The symmetric matrix of n rows in `a`, made tridiagonal.
-// kept as a run and n: docs/PROMISES.md names this function and bands, so both ask what they asked
+// kept as a run and n, as bands is: a caller has the two, and a struct of them would be made for the one call
 pub fn tridiagonalize(a: &mut [f64], n: usize)
     requires { Square n a.old }
     ensures { a.new ≡ half_of n (tridiagonal_of n (whole n a.old)) }
