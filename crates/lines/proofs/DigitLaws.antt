@@ -31,6 +31,16 @@ pub width-more : (m : ℕ) {r : ℕ} → 10 ≤ r → width_to (suc m) r ≡ suc
 unfolding width_to
 width-more m h = rw (le-ltb _ _ h)
 
+-- as many as its logarithm and one
+pub width-log : (m k : ℕ) {n : ℕ} → k ≤ m → 10 ^ k ≤ n → n < 10 * 10 ^ k → width_to m n ≡ suc k
+width-log m zero h l u = width_one m (omega (arith, u))
+width-log zero (suc k) h l u = absurd (omega arith)
+width-log (suc m) (suc k) {n} h l u =
+    let ten : 10 ≤ n = omega (arith, l, pow-succ' 10 k, one-le-pow k 10 (lit≤ tt)) in
+    let from : 10 ^ k ≤ n / 10 = omega (arith, l, pow-succ' 10 k) in
+    let below : n / 10 < 10 * 10 ^ k = omega (arith, u, pow-succ' 10 k) in
+    width-more m ten ∙ ap suc (width-log m k (omega arith) from below)
+
 pub length_digits : (b k n : ℕ) → length (digits b k n) ≡ k
 unfolding digits
 length_digits b zero n = refl

@@ -59,7 +59,7 @@ pub fn write_line(i: usize, o: Outcome, out: &mut [u8]) -> usize
     write_words(&fields_of(i, o), &PATTERNS, out)
 }
 
-// The same for the line of a file refusal. No Display: its text is promised byte for byte (`file_line_of`), and what fmt writes is not.
+// The same for the line of a file refusal. No Display, no plainer: the words of both lines go the same way, and fmt would write into a text that were then copied.
 pub fn write_file_refusal(refusal: FileRefusal, out: &mut [u8]) -> usize
     ensures value { result ≡ front_length longest (file_line_of refusal) out.old }
     ensures out_after { out.new ≡ fronted longest (file_line_of refusal) out.old }

@@ -36,17 +36,13 @@ fn digit(d: u64) -> u8
 fn width(n: u64) -> usize
     ensures { (result ≡ width_of n) × (result ≤ 20) }
 {
-    // kept as a while loop: std has no ilog10
-    let mut k: usize = 1;
-    let mut rest = n;
-    while rest >= 10 {
-        rest /= 10;
-        k += 1;
+    match n.checked_ilog10() {
+        Some(k) => k as usize + 1,
+        None => 1,
     }
-    k
 }
 
-// Fills `out` with as many digits of `n` to the base `base`, the last ones of it, the highest first.
+// Fills `out` with as many digits of `n` to the base `base`, the last ones of it, the highest first. By hand: fmt would write into a text of its own first.
 fn put_digits(out: &mut [u8], n: u64, base: u64)
     requires { (0 < base) × (base ≤ 16) }
     ensures { out.new ≡ digits base (length out.old) n }

@@ -1,12 +1,11 @@
-use Rattle.floats.proofs.ListLaws.{sub-step}
-use Rattle.lines.proofs.DigitLaws.{second-digit, tenth-below, width_one, width-more}
-use Prim.Native.Nat.{◌<◌, ◌-◌, ◌+◌}
+-- One more than the logarithm, and one where there is none. Assumes nothing.
 use native.Mathlib.Omega.{arith}
+use mathlib.Core.Path.{sym}
+use Rattle.lines.proofs.DigitLaws.{width_one, width-log}
 use Rattle.lines.proofs.words.width.Goals as goal
 
-pub loop-rest-preserved : goal.loop-rest-preserved
-loop-rest-preserved c = let m : c.loop-rest.k < 20 = omega (arith, second-digit (20 - c.loop-rest.k) c.loop-rest-test.true c.loop-rest.invariant.1) in
-    (omega arith, tenth-below _ (rw (sub-step m) at c.loop-rest.invariant.1), omega (arith, c.loop-rest.invariant.2, rw (sub-step m, width-more (20 - (c.loop-rest.k + 1)) c.loop-rest-test.true) at c.loop-rest.invariant.2))
+pub returns-in-Some : goal.returns-in-Some
+returns-in-Some c = (omega (arith, width-log 19 c.in-Some.k {n = c.args.n} (omega (arith, c.in-Some.ensures.bound)) c.in-Some.ensures.power_le c.in-Some.ensures.next_power_gt), omega (arith, c.in-Some.ensures.bound))
 
-pub returns : goal.returns
-returns c = (omega (arith, c.loop-rest.invariant.2, width_one (20 - c.loop-rest.k) c.loop-rest-test.false), c.loop-rest.invariant.0)
+pub returns-in-None : goal.returns-in-None
+returns-in-None c = (sym (width_one 19 (omega (arith, c.in-None.ensures.none))), omega arith)
