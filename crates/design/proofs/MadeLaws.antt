@@ -1,33 +1,18 @@
--- Arrays that `array::from_fn` makes, by a closure that each call leaves as it was. Assumes nothing.
-use mathlib.Core.Path.{◌≡◌, sym, ◌∙◌, subst}
+-- Rows and matrices of which only the first k places are filled, one after another. Assumes nothing.
+use mathlib.Core.Path.{◌≡◌, sym, ◌∙◌}
 use mathlib.Core.Bool.{cond}
 use mathlib.Core.List.{List}
-use Prim.Native.Nat.{ℕ, zero, suc, ◌+◌, ◌≤◌, ◌<◌}
+use Prim.Native.Nat.{ℕ, ◌+◌, ◌-◌, ◌≤◌, ◌<◌}
 use native.Mathlib.Omega.{arith}
-use native.Mathlib.Decide.{ℕ_discrete, dec_lt}
-use denote.Param.Members.{Mut}
+use native.Mathlib.Decide.{dec_lt}
 use lib.Dec.{ltb}
-use lib.ListN.{length, get_or}
-use lib.Seq.{ext_get_or}
+use lib.ListN.{length, get_or, drop, replicate, length-replicate, get_or-replicate, get_or-append}
+use lib.Seq.{ext_get_or, get_or-append-add, get_or-drop}
 use borrow.Author.Tests.{lt-ltb, le-ltb}
-use Rattle.std.specs.Array.{IsFromFnResultFrom, IsFromFnResult}
-use Rattle.std.specs.Fn.{Called}
+use Rattle.floats.specs.Limits.{max_columns}
 use Rattle.floats.specs.Tables.{table}
 use Rattle.floats.proofs.TableLaws.{length-table, get_d-table}
-
-module _ {F B : Type 0} (g : Mut F (ℕ × Unit {0}) B) (P : ℕ → B → Type 0) (f : F) (acts : (i : ℕ) (y : B) (q : F) → Called g f (i, tt) y q → (q ≡ f) × P i y) (ys : List B) (d : B) where
-  each_from : (i n : ℕ) → IsFromFnResultFrom g f ys i n → (j : ℕ) → i ≤ j → j < i + n → P j (get_or ys j d)
-  each_from i zero h j a b = absurd (omega arith)
-  each_from i (suc n) h j a b =
-      let here : (h.0 ≡ f) × P i h.1 = acts i h.1 h.0 h.3 in
-      elim (ℕ_discrete j i) [
-        | yes e ↦ rw (e, h.2.1 d) here.1
-        | no e ↦ each_from (i + 1) n (subst (λ (q : F). IsFromFnResultFrom g q ys (i + 1) n) here.0 h.4) j (omega arith) (omega arith)
-      ]
-
-  -- what each call gives stands at its index
-  pub each-made : (n : ℕ) → IsFromFnResult g f ys n → (j : ℕ) → j < n → P j (get_or ys j d)
-  each-made n h j b = each_from 0 n h.each j (omega arith) (omega arith)
+use Rattle.floats.proofs.RowLaws.{filled, length-filled}
 
 -- a list with these first k elements, and z beyond
 pub front-made : {A : Type 0} (n k : ℕ) (f : ℕ → A) (z d : A) (ys : List A) → length ys ≡ n → ((j : ℕ) → j < n → (j < k → get_or ys j d ≡ f j) × (k ≤ j → get_or ys j d ≡ z)) → ys ≡ table (λ j. cond (ltb j k) (f j) z) n
@@ -38,3 +23,21 @@ front-made {A} n k f z d ys e h =
     by : (j : ℕ) → j < n → (j < k → get_or ys j d ≡ f j) × (k ≤ j → get_or ys j d ≡ z) → Dec (j < k) → get_or ys j d ≡ cond (ltb j k) (f j) z
     by j m w (yes l) = rw (lt-ltb j k l) (w.0 l)
     by j m w (no l) = rw (le-ltb j k (omega arith)) (w.1 (omega arith))
+
+module _ {A : Type 0} (f : ℕ → A) (z : A) (k : ℕ) (h : k ≤ max_columns) where
+  first : (j : ℕ) → j < k → get_or (filled f k (replicate max_columns z)) j z ≡ f j
+  first j l = get_or-append (table f k) (drop k (replicate max_columns z)) z j (rw (length-table f k) l) ∙ get_d-table f k j z l
+
+  beyond : (j : ℕ) → j < max_columns → k ≤ j → get_or (filled f k (replicate max_columns z)) j z ≡ z
+  beyond j b l =
+      let e : length (table f k) + (j - k) ≡ j = omega (arith, length-table f k) in
+      rw e at (get_or-append-add (table f k) (drop k (replicate max_columns z)) (j - k) z)
+      ∙ get_or-drop k (replicate max_columns z) (j - k) z
+      ∙ get_or-replicate max_columns (k + (j - k)) z z (omega arith)
+
+  -- of as many as a row has, the first k stored over z
+  pub front-filled : filled f k (replicate max_columns z) ≡ table (λ j. cond (ltb j k) (f j) z) max_columns
+  front-filled =
+      front-made max_columns k f z z (filled f k (replicate max_columns z))
+      (length-filled f (replicate max_columns z) k (rw (length-replicate max_columns z) h) ∙ length-replicate max_columns z)
+      (λ j b. (first j, beyond j b))

@@ -1,12 +1,11 @@
 // Sums, rows and matrices, each by what stands at an index.
 ghost use Rattle.std.specs.Prelude.{◌≡◌, ℕ, ◌<◌, ◌≤◌, Float};
+ghost use Rattle.floats.specs.Limits.{max_columns};
 ghost use Rattle.floats.specs.Sums.{sum_of};
-ghost use Rattle.floats.specs.Words.{plus_zero};
-ghost use Rattle.design.specs.Matrix.{zero_row, row, matrix};
+ghost use Rattle.design.specs.Matrix.{row, matrix};
 
 use super::Matrix;
 use floats::limits::MAX_COLUMNS;
-use std::array;
 
 // term(0), plus term(1), .., plus term(n - 1), from -0.
 pub fn sum_of<F: Fn(usize) -> f64>(n: usize, term: F) -> f64
@@ -23,40 +22,32 @@ pub fn sum_of<F: Fn(usize) -> f64>(n: usize, term: F) -> f64
 
 // The row with these first k numbers, and +0 beyond.
 pub fn row<F: Fn(usize) -> f64>(k: usize, number: F) -> [f64; MAX_COLUMNS]
-    requires { (j : ℕ) → j < k → F.pre number j }
+    requires { (k ≤ max_columns) × ((j : ℕ) → j < k → F.pre number j) }
     ensures { (f : ℕ → Float) → ((j : ℕ) (x : Float) → j < k → F.post number j x → x ≡ f j) → result ≡ row k f }
 {
-    array::from_fn(
-        |j| -> f64
-            requires { j < k → F.pre number j }
-            ensures first { j < k → F.post number j result }
-            ensures beyond { k ≤ j → result ≡ plus_zero }
-        { if j < k { number(j) } else { 0.0 } },
-    )
+    let mut row = [0.0f64; MAX_COLUMNS];
+    // kept as an index loop: array::from_fn makes all eight places, and a call of few columns pays for it
+    for j in 0..k {
+        row[j] = number(j);
+    }
+    row
 }
 
 // The matrix with these entries in its first k rows and columns, and +0 beyond.
 pub fn matrix<F: Fn(usize, usize) -> f64>(k: usize, entry: F) -> Matrix
-    requires { (i j : ℕ) → i < k → j < k → F.pre entry i j }
+    requires { (k ≤ max_columns) × ((i j : ℕ) → i < k → j < k → F.pre entry i j) }
     ensures { (f : ℕ → ℕ → Float) → ((i j : ℕ) (x : Float) → i < k → j < k → F.post entry i j x → x ≡ f i j) → result ≡ matrix k f }
 {
-    array::from_fn(
-        |i| -> [f64; MAX_COLUMNS]
-            requires { i < k → (j : ℕ) → j < k → F.pre entry i j }
-            ensures first { i < k → (f : ℕ → Float) → ((j : ℕ) (x : Float) → j < k → F.post entry i j x → x ≡ f j) → result ≡ row k f }
-            ensures beyond { k ≤ i → result ≡ zero_row }
-        {
-            if i < k {
-                row(
-                    k,
-                    |j| -> f64
-                        requires { F.pre entry i j }
-                        ensures { F.post entry i j result }
-                    { entry(i, j) },
-                )
-            } else {
-                [0.0; MAX_COLUMNS]
-            }
-        },
-    )
+    let mut rows = [[0.0f64; MAX_COLUMNS]; MAX_COLUMNS];
+    // kept as an index loop: array::from_fn makes all eight rows
+    for i in 0..k {
+        rows[i] = row(
+            k,
+            |j| -> f64
+                requires { F.pre entry i j }
+                ensures { F.post entry i j result }
+            { entry(i, j) },
+        );
+    }
+    rows
 }

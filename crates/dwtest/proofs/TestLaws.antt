@@ -23,7 +23,7 @@ use Rattle.design.specs.declared.FailedPivot.{FailedPivot}
 use Rattle.design.specs.declared.LawError.{LawError}
 use Rattle.elementary.specs.declared.NormalLaw.{NormalLaw}
 use Rattle.outcome.specs.Refusals.{passed, passes, first_of, refusal_of, refusal_in, columns_refusal, statistic_refusal, rows_refusal, pivots_refusal, inverse_refusal, rooms_of, room_refusal}
-use Rattle.outcome.specs.Result.{least_rows, wants_exact, no_law, direct, refused_of, outcome_in, accepted_of}
+use Rattle.outcome.specs.Result.{path_number, least_rows, wants_exact, no_law, direct, refused_of, outcome_in, accepted_of}
 use Rattle.outcome.specs.declared.Alternative.{Alternative}
 use Rattle.outcome.specs.declared.Asked.{Asked}
 use Rattle.outcome.specs.declared.Choice.{Choice}
@@ -101,7 +101,7 @@ module _ (wanted : ℕ → ℕ) (x : List Float) (n k : ℕ) (asked : Asked) (ch
 
     module _ (q : passes (inverse_refusal k i) ≡ true) where
       -- path 1
-      pub too_few : ltb n least_rows ≡ true → Decided (accepted_of asked one path.FewRows direct no_law) false
+      pub too_few : ltb n least_rows ≡ true → Decided (accepted_of asked one (path_number path.FewRows) direct no_law) false
       unfolding design_of first_of
       too_few r = rw (hold, inv, q, r) (refl, refl)
 

@@ -20,7 +20,7 @@ use Rattle.imhof.specs.declared.Estimate.{Estimate}
 use Rattle.imhof.specs.declared.ExactError.{ExactError}
 use Rattle.imhof.specs.declared.ExactError.TheVariants.{NoWeight, NotFinite}
 use Rattle.outcome.specs.Refusals.{passes, first_of, refusal_of, statistic_refusal, spectrum_error, law_error, rooms_of}
-use Rattle.outcome.specs.Result.{least_rows, wants_exact, no_law, fallen_back, refused_of, accepted_of}
+use Rattle.outcome.specs.Result.{path_number, least_rows, wants_exact, no_law, fallen_back, refused_of, accepted_of}
 use Rattle.outcome.specs.declared.Asked.{Asked}
 use Rattle.outcome.specs.declared.Choice.{Choice}
 use Rattle.outcome.specs.declared.Leaving.{Leaving}
@@ -51,7 +51,7 @@ module _ (e : List Float) where
     to-law : (left : Leaving) → Vouched (finish found asked (to_law asked left)) e
     to-law left = go (too_few_for_law asked.rows)
       where
-        go : (b : Bool) → Vouched (finish found asked (cond b (Answered (accepted_of asked one path.FewForLaw left no_law)) (LawDue left))) e
+        go : (b : Bool) → Vouched (finish found asked (cond b (Answered (accepted_of asked one (path_number path.FewForLaw) left no_law)) (LawDue left))) e
         go true = sure
         go false = by-law found left
 

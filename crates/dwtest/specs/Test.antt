@@ -6,7 +6,7 @@ use Rattle.autocorrelation.specs.Statistic.{durbin_watson_answer, value}
 use Rattle.columns.specs.Sheet.{columns_of}
 use Rattle.outcome.specs.Rooms.{room_of}
 use Rattle.outcome.specs.Refusals.{passes, first_of, refusal_of, columns_refusal, statistic_refusal, rows_refusal, rooms_of}
-use Rattle.outcome.specs.Result.{least_rows, wants_exact, no_law, direct, refused_of, accepted_of}
+use Rattle.outcome.specs.Result.{path_number, least_rows, wants_exact, no_law, direct, refused_of, accepted_of}
 use Rattle.outcome.specs.declared.Alternative.{Alternative}
 use Rattle.outcome.specs.declared.Choice.{Choice}
 use Rattle.outcome.specs.declared.Asked.{Asked}
@@ -42,7 +42,7 @@ is_exact (Err why) = false
 
 -- what is said before any law is worked out, the way a sheet goes: path 1, where p is 1; 12; from the eigenvalues; or that the law is due
 abbrev pub said_by : Result Way TestError → Layout → Asked → Said
-said_by (Ok Few) l asked = Answered (accepted_of asked one path.FewRows direct no_law)
+said_by (Ok Few) l asked = Answered (accepted_of asked one (path_number path.FewRows) direct no_law)
 said_by (Err why) l asked = Answered (refused_of (refusal_of why))
 said_by (Ok Exact) l asked = by_spectrum l.spectrum l.kept asked
 said_by (Ok Normal) l asked = to_law asked direct

@@ -14,7 +14,7 @@ use Rattle.imhof.specs.declared.ExactError.{ExactError}
 use Rattle.imhof.specs.declared.ExactError.TheVariants.{NoWeight, NotFinite}
 use Rattle.outcome.specs.P.{exact_p, normal_p}
 use Rattle.outcome.specs.Refusals.{not_finite, refusal_of, spectrum_error, law_refusal}
-use Rattle.outcome.specs.Result.{no_law, fallen_back, worked_out, refused_of, accepted_of}
+use Rattle.outcome.specs.Result.{path_number, no_law, fallen_back, worked_out, refused_of, accepted_of}
 use Rattle.outcome.specs.declared.Asked.{Asked}
 use Rattle.outcome.specs.declared.Leaving.{Leaving}
 use Rattle.outcome.specs.declared.Outcome.{Outcome}
@@ -32,13 +32,13 @@ said_in (Err why) = Answered (refused_of (refusal_of why))
 
 -- path 4, where there are too few rows for a law and p is 1; else path 3 is due
 abbrev pub to_law : Asked → Leaving → Said
-to_law asked left = cond (too_few_for_law asked.rows) (Answered (accepted_of asked one path.FewForLaw left no_law)) (LawDue left)
+to_law asked left = cond (too_few_for_law asked.rows) (Answered (accepted_of asked one (path_number path.FewForLaw) left no_law)) (LawDue left)
 
 -- path 2 by Imhof's probability, which is the lower tail; 13, stage 4; or the fallback, where no weight is left
 abbrev pub by_imhof : Result Estimate ExactError → Numbers → Asked → Said
 by_imhof (Err NoWeight) s asked = to_law asked (fallen_back s)
 by_imhof (Err NotFinite) s asked = Answered (refused_of (not_finite 4))
-by_imhof (Ok q) s asked = Answered (accepted_of asked (exact_p q.probability asked.alternative) path.Imhof (worked_out s q) no_law)
+by_imhof (Ok q) s asked = Answered (accepted_of asked (exact_p q.probability asked.alternative) (path_number path.Imhof) (worked_out s q) no_law)
 
 -- from the eigenvalues that are kept; 13, stages 2 and 3
 abbrev pub by_spectrum : Result Numbers SpectrumError → List Float → Asked → Said
@@ -48,7 +48,7 @@ by_spectrum (Ok s) kept asked = by_imhof (imhof_of kept asked.statistic).answer 
 -- ---- with the law
 -- path 3; 13, stage 5, and 14
 abbrev pub by_law : Result NormalLaw LawError → Asked → Leaving → Outcome
-by_law (Ok l) asked left = accepted_of asked (normal_p l asked.statistic asked.alternative) path.Law left l
+by_law (Ok l) asked left = accepted_of asked (normal_p l asked.statistic asked.alternative) (path_number path.Law) left l
 by_law (Err why) asked left = refused_of (law_refusal (Err why))
 
 abbrev pub finish : Result NormalLaw LawError → Asked → Said → Outcome

@@ -27,7 +27,7 @@ pub fn to_law(asked: Asked, left: Leaving) -> Said
     ensures { result ≡ to_law asked left }
 {
     if asked.rows < LEAST_FOR_LAW {
-        return Said::Answered(accepted(asked, 1.0, Path::FewForLaw, left, no_law()));
+        return Said::Answered(accepted(asked, 1.0, Path::FewForLaw.into(), left, no_law()));
     }
     Said::LawDue(left)
 }
@@ -37,7 +37,7 @@ pub fn by_law(law: NormalLaw, asked: Asked, left: Leaving) -> Outcome
     ensures { result ≡ by_law (Ok law) asked left }
 {
     let p = normal_p(law, asked.statistic, asked.alternative);
-    accepted(asked, p, Path::Law, left, law)
+    accepted(asked, p, Path::Law.into(), left, law)
 }
 
 // From Imhof's probability. `s` is how many eigenvalues are kept and what they took.
@@ -52,7 +52,7 @@ fn by_imhof(
         Ok(q) => {
             let p = exact_p(q.probability, asked.alternative);
             let left = worked_out(s, q);
-            Ok(Said::Answered(accepted(asked, p, Path::Imhof, left, no_law())))
+            Ok(Said::Answered(accepted(asked, p, Path::Imhof.into(), left, no_law())))
         }
         Err(ExactError::NoWeight) => Ok(to_law(asked, fallen_back(s))),
         Err(ExactError::NotFinite) => Err(TestError::NotFinite(Stage::Integral)),

@@ -6,13 +6,13 @@ use native.Mathlib.Nat.{le_antisymm}
 use native.Mathlib.Numerals.{add-one}
 use native.Mathlib.Omega.{arith}
 use mathlib.Core.List.{List, [], ◌∷◌, ◌++◌, append-nil}
-use lib.ListN.{length, take, drop, set}
-use lib.Seq.{take-suc, append_snoc, drop-cons, set_at, take_at, get_or_at}
+use lib.ListN.{length, take, drop, set, length-append, drop_of_length-le}
+use lib.Seq.{take-suc, take_all, append_snoc, drop-cons, set_at, take_at, get_or_at}
 use lib.Ieee.{Float, nan, lt}
 use Rattle.std.specs.Prelude.{Option, Some, None, position, nat_lt}
 use Rattle.std.specs.List.{position_or_len}
 use Rattle.std.specs.Option.{unwrap_or}
-use Rattle.std.proofs.lemmas.List.{get_or-drop, drop-drop, drop-take, take-take, length-take, length-drop, drop_at, append_assoc}
+use Rattle.std.proofs.lemmas.List.{drop-drop, drop-take, take-take, length-take, append_assoc}
 use Rattle.std.proofs.lemmas.Bool.{ltb-false}
 use Rattle.floats.specs.Words.{◌‼◌}
 use Rattle.floats.specs.Signs.{before}
@@ -52,31 +52,18 @@ placed d x o r p e = let z : r ≡ q = e ∙ ap (λ (o : Option ℕ). unwrap_or 
     there true h = refl
     there false h = le_antisymm (ltb-false q (length d) h) (within (λ y. before y x) d)
 
--- the last number of a part, moved to the part's front
-module _ (d : List Float) (p i : ℕ) (h : p ≤ i) (k : i < length d) where
-  abbrev run : List Float
-  run = take (i + 1 - p) (drop p d)
-
-  shape : run ≡ take (i - p) (drop p d) ++ (d ‼ i ∷ [])
-  shape =
-      let m : i + 1 - p ≡ suc (i - p) = omega arith in
-      let o : p + (i - p) ≡ i = omega arith in
-      let l : i - p < length (drop p d) = simp length-drop (omega arith) in
-      rw (m, take-suc (drop p d) (i - p) nan l, get_or-drop p d (i - p) nan, o) refl
-
-  front : length (take (i - p) (drop p d)) ≡ i - p
-  front = simp (length-take, length-drop) (omega arith)
-
-  pub turned : take p d ++ ((drop (length run - 1) run ++ take (length run - 1) run) ++ drop (i + 1 - p) (drop p d)) ≡ (take p (take i d) ++ (d ‼ i ∷ drop p (take i d))) ++ drop (i + 1) d
-  turned =
-      let n : length run - 1 ≡ i - p = simp (length-take, length-drop) (omega arith) in
-      let o : p + (i - p) ≡ i = omega arith in
-      let a : drop (i - p) run ≡ d ‼ i ∷ [] = rw shape (drop_at (take (i - p) (drop p d)) (d ‼ i ∷ []) (i - p) front) in
-      let b : take (i - p) run ≡ take (i - p) (drop p d) = rw shape (take_at (take (i - p) (drop p d)) (d ‼ i ∷ []) (i - p) front) in
-      let c : drop (i + 1 - p) (drop p d) ≡ drop (i + 1) d = drop-drop (i + 1 - p) p d ∙ ap (λ (m : ℕ). drop m d) (omega arith) in
-      let e : take p (take i d) ≡ take p d = take-take p i d h in
-      let f : drop p (take i d) ≡ take (i - p) (drop p d) = ap (λ (m : ℕ). drop p (take m d)) (sym o) ∙ drop-take p (i - p) d in
-      rw (n, a, b, c, e, f) (sym (append_assoc (take p d) (d ‼ i ∷ take (i - p) (drop p d)) (drop (i + 1) d)))
+-- the number that is carried through a part stands behind it
+pub put_last : (d part : List Float) (p i n : ℕ) (x : Float) → p ≤ i → i < length d → length part ≡ i - p → length part ≤ n → take n part ++ (x ∷ drop n part) ≡ d ‼ i ∷ take (i - p) (drop p d)
+    → set (take p d ++ (part ++ drop (i - p) (drop p d))) i x ≡ (take p (take i d) ++ (d ‼ i ∷ drop p (take i d))) ++ drop (i + 1) d
+put_last d part p i n x h k m g w =
+    let o : p + (i - p) ≡ i = omega arith in
+    let a : part ++ (x ∷ []) ≡ d ‼ i ∷ take (i - p) (drop p d) = rw (take_all n part g, drop_of_length-le part g) at w in
+    let b : drop (i - p) (drop p d) ≡ d ‼ i ∷ drop (i + 1) d = drop-drop (i - p) p d ∙ rw (o, add-one i) (drop-cons d i nan k) in
+    let e : take p (take i d) ≡ take p d = take-take p i d h in
+    let f : drop p (take i d) ≡ take (i - p) (drop p d) = ap (λ (j : ℕ). drop p (take j d)) (sym o) ∙ drop-take p (i - p) d in
+    let l : length (take p d ++ part) ≡ i = simp (length-append, length-take) (omega arith) in
+    rw (b, ← append_assoc (take p d) part (d ‼ i ∷ drop (i + 1) d), set_at (take p d ++ part) (d ‼ i) (drop (i + 1) d) x i l, e, f, ← a)
+    (sym (append_snoc (take p d ++ part) x (drop (i + 1) d)) ∙ ap (λ (q : List Float). q ++ drop (i + 1) d) (append_assoc (take p d) part (x ∷ [])))
 
 -- ---- lengths
 

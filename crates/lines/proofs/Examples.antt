@@ -8,15 +8,12 @@ use lib.Ieee.{Float, of_bits, to_bits}
 use Rattle.floats.specs.Words.{plus_zero, float}
 use Rattle.outcome.specs.declared.Alternative.TheVariants.{Greater}
 use Rattle.outcome.specs.declared.Outcome.{Outcome}
-use Rattle.outcome.specs.declared.Path.{Path}
-use Rattle.outcome.specs.declared.Path.TheVariants.{FewRows, FewForLaw}
-use Rattle.outcome.specs.declared.Path.TheVariants as path
 use Rattle.sheet.specs.declared.file.FileRefusal.TheVariants.{Size, Codes, NotRising, LeftOver}
 use Rattle.lines.specs.Lines.{text, digits, width_to, line_of, longest_of}
 use Rattle.lines.specs.Fields.{fields, fields_of, file_line_of}
 
 -- the result of a sheet of n rows by a path that needs no eigenvalue
-abbrev result : ℕ → Float → Float → ℕ → Path → Bool → Outcome
+abbrev result : ℕ → Float → Float → ℕ → ℕ → Bool → Outcome
 result refusal d p n path settled =
     record { refusal = record { number = refusal; place = 0 }; statistic = d; p = p; alternative = Greater; n = n; path = path; fallback = false; kept = 0; work = record { sweeps = 0; bisections = 0; evaluations = 0 }; settled = settled; law = record { mean = plus_zero; variance = plus_zero } }
 
@@ -24,7 +21,7 @@ result refusal d p n path settled =
 abbrev line : ℕ → Outcome → List ℕ
 line i o = line_of (take 12 (fields_of i o))
 
-pub whole-lines : line 0 (result 0 (float 0x4000000000000000) (float 0x3ff0000000000000) 2 FewRows true) ∷ line 1 (result 0 (float 0x4008000000000000) (float 0x3ff0000000000000) 4 FewForLaw true) ∷ line 2 (result 6 plus_zero plus_zero 0 path.None false) ∷ []
+pub whole-lines : line 0 (result 0 (float 0x4000000000000000) (float 0x3ff0000000000000) 2 1 true) ∷ line 1 (result 0 (float 0x4008000000000000) (float 0x3ff0000000000000) 4 4 true) ∷ line 2 (result 6 plus_zero plus_zero 0 0 false) ∷ []
     ≡ map text (
     "0 0 0 4000000000000000 3ff0000000000000 1 0 0 0 0 0 1\n"
     ∷ "1 0 0 4008000000000000 3ff0000000000000 4 0 0 0 0 0 1\n"

@@ -5,7 +5,6 @@ use Prim.Native.String.{String}
 use Rattle.std.specs.Float.{binary64}
 use Rattle.std.specs.Float.Ieee.{to_bits}
 use Rattle.outcome.specs.declared.Outcome.{Outcome}
-use Rattle.outcome.specs.Result.{path_number}
 use Rattle.sheet.specs.Reading.{number_of, index_of}
 use Rattle.sheet.specs.declared.file.FileRefusal.{FileRefusal}
 use Rattle.lines.specs.Lines.{Word, number, text, line_of, longest_of}
@@ -36,7 +35,7 @@ fields =
     ∷ field "place" Decimal (λ i o. o.refusal.place)
     ∷ field "statistic" Hex (λ i o. bits_of o.statistic)
     ∷ field "p" Hex (λ i o. bits_of o.p)
-    ∷ field "path" Decimal (λ i o. path_number o.path)
+    ∷ field "path" Decimal (λ i o. o.path)
     ∷ field "fallback" Decimal (λ i o. mark_of o.fallback)
     ∷ field "kept" Decimal (λ i o. o.kept)
     ∷ field "sweeps" Decimal (λ i o. o.work.sweeps)

@@ -39,7 +39,7 @@ pub fn fields_of(i: usize, o: Outcome) -> [u64; FIELDS]
         why.place as u64,
         bits_of(o.statistic),
         bits_of(o.p),
-        u64::from(o.path),
+        o.path as u64,
         o.fallback as u64,
         o.kept as u64,
         work.sweeps as u64,

@@ -20,6 +20,7 @@ use Rattle.records.specs.Answer.{answer_of}
 use Rattle.records.proofs.AnswerLaws.{answer-short}
 use Rattle.outcome.specs.Rooms.{part_room}
 use Rattle.outcome.specs.Refusals.{passed, refusal, passes, first_of, refusal_of, refusal_in, columns_refusal, rows_refusal, pivots_refusal, inverse_refusal, rooms_of, room_refusal, not_finite, records_refusal}
+use Rattle.outcome.specs.declared.Refusal.{Refusal}
 use Rattle.outcome.specs.declared.refusals.Stage.TheVariants.{Inverse, Product, Eigenvalues, Integral, Law}
 use Rattle.outcome.specs.declared.refusals.TestError.{TestError}
 use Rattle.outcome.specs.declared.refusals.TestError.TheVariants.{Columns, Statistic, FewRows, Pivot, MatrixRoom, PartRoom, NotFinite, NotSpread}
@@ -78,18 +79,19 @@ pub pivots-hold : (p : Result (Unit {0}) FailedPivot) → passes (pivots_refusal
 pivots-hold (Ok hold) h = refl
 pivots-hold (Err failed) h = absurd (never (Pivot failed) h)
 
+-- what a check answers that nothing fails
+abbrev suffice : Result (Unit {0}) TestError
+suffice = Ok tt
+
 -- more rows than columns
 pub more_rows : (n k : ℕ) → passes (rows_refusal n k) ≡ true → k < n
 more_rows n k h = go (leb n k) refl h
   where
-    go : (b : Bool) → leb n k ≡ b → passes (cond b (refusal 10 0) passed) ≡ true → k < n
+    go : (b : Bool) → leb n k ≡ b → passes (refusal_in (cond b (Err FewRows) suffice)) ≡ true → k < n
     go true e r = absurd (true≢false (sym r))
     go false e r = nleb→lt n k (untruth (leb n k) e)
 
 -- both rooms are long enough
-abbrev suffice : Result (Unit {0}) TestError
-suffice = Ok tt
-
 pub rooms-fit : (wanted m p : ℕ) → passes (room_refusal wanted m p) ≡ true → (wanted ≤ m) × (part_room ≤ p)
 rooms-fit wanted m p h = go (ltb m wanted) refl (ltb p part_room) refl h
   where
@@ -103,7 +105,10 @@ pub inverse-alone : (k : ℕ) (i : Matrix) → first_of (inverse_refusal k i ∷
 unfolding first_of
 inverse-alone k i = go (finite_matrix k i)
   where
-    go : (b : Bool) → cond (passes (cond b passed (not_finite 1))) passed (cond b passed (not_finite 1)) ≡ cond b passed (not_finite 1)
+    checked : Bool → Refusal
+    checked b = refusal_in (cond b (Ok i) (Err (NotFinite Inverse)))
+
+    go : (b : Bool) → cond (passes (checked b)) passed (checked b) ≡ checked b
     go true = refl
     go false = refl
 

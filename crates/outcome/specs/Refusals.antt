@@ -92,8 +92,11 @@ statistic_refusal (Ok d) = passed
 statistic_refusal (Err why) = refusal_of (Statistic why)
 
 -- 10: no more rows than columns
+abbrev pub rows_of : ℕ → ℕ → Result (Unit {0}) TestError
+rows_of n k = cond (too_few_rows n k) (Err FewRows) (Ok tt)
+
 abbrev pub rows_refusal : ℕ → ℕ → Refusal
-rows_refusal n k = cond (too_few_rows n k) (refusal 10 0) passed
+rows_refusal n k = refusal_in (rows_of n k)
 
 -- 11: a pivot fails
 abbrev pub pivots_refusal : Result (Unit {0}) FailedPivot → Refusal
@@ -107,9 +110,12 @@ rooms_of wanted matrix parts = cond (ltb matrix wanted) (Err MatrixRoom) (cond (
 abbrev pub room_refusal : ℕ → ℕ → ℕ → Refusal
 room_refusal wanted matrix parts = refusal_in (rooms_of wanted matrix parts)
 
--- 13, stage 1
+-- 13, stage 1: an entry of the inverse of k columns is not finite
+abbrev pub inverse_in : ℕ → Matrix → Result Matrix TestError
+inverse_in k inverse = cond (finite_matrix k inverse) (Ok inverse) (Err (NotFinite Inverse))
+
 abbrev pub inverse_refusal : ℕ → Matrix → Refusal
-inverse_refusal k inverse = cond (finite_matrix k inverse) passed (not_finite 1)
+inverse_refusal k inverse = refusal_in (inverse_in k inverse)
 
 -- 13, stages 2 and 3
 abbrev pub spectrum_error : SpectrumError → TestError

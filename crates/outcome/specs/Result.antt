@@ -62,7 +62,7 @@ worked_out s q = record { fallback = false; kept = s.count; work = together s.wo
 -- a refusal: its number, its place and zeros
 abbrev pub refused_of : Refusal → Outcome
 refused_of r =
-    record { refusal = r; statistic = plus_zero; p = plus_zero; alternative = Greater; n = 0; path = path.None; fallback = false; kept = 0; work = no_work; settled = false; law = no_law }
+    record { refusal = r; statistic = plus_zero; p = plus_zero; alternative = Greater; n = 0; path = path_number path.None; fallback = false; kept = 0; work = no_work; settled = false; law = no_law }
 
 -- of a test that ends with a result, or with the reason of its refusal
 abbrev pub outcome_in : Result Outcome TestError → Outcome
@@ -70,6 +70,6 @@ outcome_in (Ok o) = o
 outcome_in (Err why) = refused_of (refusal_of why)
 
 -- an answer by a path
-abbrev pub accepted_of : Asked → Float → Path → Leaving → NormalLaw → Outcome
+abbrev pub accepted_of : Asked → Float → ℕ → Leaving → NormalLaw → Outcome
 accepted_of asked p path left law =
     record { refusal = passed; statistic = asked.statistic; p = p; alternative = asked.alternative; n = asked.rows; path = path; fallback = left.fallback; kept = left.kept; work = left.work; settled = left.settled; law = law }

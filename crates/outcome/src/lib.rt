@@ -43,7 +43,7 @@ pub struct Asked {
 #[derive(Clone, Copy, Debug, PartialEq, Eq)]
 pub struct UnknownCode(pub u32);
 
-// How an answer was reached. A refused sheet has no path.
+// How an answer was reached. A refused sheet has no path. The result has its number, as document 01 does: `accepted` takes whatever number it is given.
 #[derive(Clone, Copy, Debug, PartialEq, Eq)]
 pub enum Path {
     None,
@@ -81,7 +81,8 @@ pub struct Outcome {
     pub p: f64,
     pub alternative: Alternative,
     pub n: usize,
-    pub path: Path,
+    // the number of a Path
+    pub path: usize,
     // the exact path gave no value, and another answered
     pub fallback: bool,
     // eigenvalues kept
@@ -163,11 +164,11 @@ impl TryFrom<u32> for Choice {
     }
 }
 
-// The number that a line prints.
-impl From<Path> for u64 {
+// Document 01's number of a path.
+impl From<Path> for usize {
     ghost from_gives = { λ path number. number ≡ path_number path };
 
-    fn from(path: Path) -> u64 {
+    fn from(path: Path) -> usize {
         match path {
             Path::None => 0,
             Path::FewRows => 1,
@@ -175,6 +176,15 @@ impl From<Path> for u64 {
             Path::Law => 3,
             Path::FewForLaw => 4,
         }
+    }
+}
+
+// The same as a word of a line.
+impl From<Path> for u64 {
+    ghost from_gives = { λ path number. number ≡ path_number path };
+
+    fn from(path: Path) -> u64 {
+        usize::from(path) as u64
     }
 }
 
@@ -249,7 +259,7 @@ pub fn refused(why: Refusal) -> Outcome
         p: 0.0,
         alternative: Alternative::Greater,
         n: 0,
-        path: Path::None,
+        path: usize::from(Path::None),
         fallback: false,
         kept: 0,
         work: Tally::new(),
@@ -259,7 +269,7 @@ pub fn refused(why: Refusal) -> Outcome
 }
 
 // An answer by a path.
-pub fn accepted(asked: Asked, p: f64, path: Path, left: Leaving, law: NormalLaw) -> Outcome
+pub fn accepted(asked: Asked, p: f64, path: usize, left: Leaving, law: NormalLaw) -> Outcome
     ensures { result ≡ accepted_of asked p path left law }
 {
     Outcome {

@@ -1,7 +1,7 @@
 // Document 01's refusals: why the test refuses a sheet, and the numbers and places of that.
-ghost use Rattle.std.specs.Prelude.{◌≡◌, ◌≤◌, IfOk};
+ghost use Rattle.std.specs.Prelude.{◌≡◌, ◌≤◌};
 ghost use Rattle.floats.specs.Limits.{max_rows, max_columns};
-ghost use Rattle.outcome.specs.Refusals.{refusal_of, refusal_in, law_error, spectrum_error, records_error, rows_refusal, inverse_refusal, rooms_of};
+ghost use Rattle.outcome.specs.Refusals.{refusal_of, law_error, spectrum_error, records_error, rows_of, inverse_in, rooms_of};
 ghost use Rattle.outcome.specs.Rooms.{room_of};
 ghost use Rattle.outcome.specs.declared.refusals.Stage.TheVariants.{Integral};
 ghost use Rattle.outcome.specs.declared.refusals.TestError.TheVariants as error;
@@ -138,7 +138,7 @@ impl From<TestError> for Refusal {
 
 // More rows than columns.
 pub fn check_rows(size: SheetSize) -> Result<(), TestError>
-    ensures { refusal_in result ≡ rows_refusal size.rows size.columns }
+    ensures { result ≡ rows_of size.rows size.columns }
 {
     if columns::too_few_rows(size) {
         return Err(TestError::FewRows);
@@ -149,8 +149,7 @@ pub fn check_rows(size: SheetSize) -> Result<(), TestError>
 // An inverse of k columns whose entries are finite.
 pub fn check_inverse(inverse: Matrix, k: usize) -> Result<Matrix, TestError>
     requires { k ≤ max_columns }
-    ensures refusal { refusal_in result ≡ inverse_refusal k inverse }
-    ensures same { IfOk result (λ found. found ≡ inverse) }
+    ensures { result ≡ inverse_in k inverse }
 {
     if design::inverse_is_finite(inverse, k) {
         return Ok(inverse);

@@ -30,12 +30,12 @@ pub fn fill(row: &mut [f64], x: f64)
     row.fill(x);
 }
 
-// The numbers of `row` become those of `xs`.
+// The numbers of `row` become those of `xs`. By update: copy_from_slice compiles to memmove, which the archive for C does not ask of its callers.
 pub fn copy(row: &mut [f64], xs: &[f64])
     requires { length row.old ≤ length xs.now }
     ensures { row.new ≡ table (λ j. xs.now ‼ j) (length row.old) }
 {
-    row.copy_from_slice(&xs[..row.len()]);
+    update(row, |j, _| xs[j]);
 }
 
 // Adds w times the numbers of `xs` to those of `row`.

@@ -52,7 +52,7 @@ use Rattle.outcome.specs.Refusals.{refusal, passes, refusal_of, spectrum_error, 
 use Rattle.outcome.specs.declared.Path.TheVariants as path
 use Rattle.outcome.specs.declared.refusals.TestError.{TestError}
 use Rattle.outcome.specs.declared.refusals.TestError.TheVariants.{Statistic, Pivot}
-use Rattle.outcome.specs.Result.{refused_of, accepted_of, wants_exact, no_law, direct, fallen_back, worked_out}
+use Rattle.outcome.specs.Result.{path_number, refused_of, accepted_of, wants_exact, no_law, direct, fallen_back, worked_out}
 use Rattle.dwtest.specs.Layout.{layout_from}
 use Rattle.dwtest.specs.Verdict.{normal_path, exact_path, by_spectrum, finish}
 use Rattle.dwtest.specs.declared.verdict.Said.TheVariants.{Answered, LawDue}
@@ -115,14 +115,14 @@ module _ (e x : List Float) (k : ℕ) (a : Alternative) (choice : Choice) (matri
     -- a refusal
     pub refused : (r : Refusal) → passes r ≡ false → P (refused_of r)
     -- path 1
-    pub short : ltb n 3 ≡ true → P (accepted_of asked one path.FewRows direct no_law)
+    pub short : ltb n 3 ≡ true → P (accepted_of asked one (path_number path.FewRows) direct no_law)
     -- paths 4 and 3, with what the exact path left
-    pub early : (left : Leaving) → LeftBy left → P (accepted_of asked one path.FewForLaw left no_law)
+    pub early : (left : Leaving) → LeftBy left → P (accepted_of asked one (path_number path.FewForLaw) left no_law)
     pub normal : (left : Leaving) (law : NormalLaw) → LeftBy left → law_answer (law_from x n k inverse) ≡ Ok law
-        → P (accepted_of asked (normal_p law d a) path.Law left law)
+        → P (accepted_of asked (normal_p law d a) (path_number path.Law) left law)
     -- path 2
     pub exact : (s : Numbers) (q : Estimate) → due ≡ true → back ≡ false → s.stuck ≡ left? → (imhof_of kept d).answer ≡ Ok q
-        → P (accepted_of asked (exact_p q.probability a) path.Imhof (worked_out s q) no_law)
+        → P (accepted_of asked (exact_p q.probability a) (path_number path.Imhof) (worked_out s q) no_law)
 
   -- the work that the exact path left to them: the sweeps alone
   abbrev pub WorkLeft : Leaving → Type 0
@@ -131,12 +131,12 @@ module _ (e x : List Float) (k : ℕ) (a : Alternative) (choice : Choice) (matri
   -- the same, where a property may rest on the work too, and path 2 on the spectrum as it is
   pub record ShownWorked (P : Outcome → Type 0) : Type 0 where
     pub refused : (r : Refusal) → passes r ≡ false → P (refused_of r)
-    pub short : ltb n 3 ≡ true → P (accepted_of asked one path.FewRows direct no_law)
-    pub early : (left : Leaving) → LeftBy left → WorkLeft left → P (accepted_of asked one path.FewForLaw left no_law)
+    pub short : ltb n 3 ≡ true → P (accepted_of asked one (path_number path.FewRows) direct no_law)
+    pub early : (left : Leaving) → LeftBy left → WorkLeft left → P (accepted_of asked one (path_number path.FewForLaw) left no_law)
     pub normal : (left : Leaving) (law : NormalLaw) → LeftBy left → WorkLeft left → law_answer (law_from x n k inverse) ≡ Ok law
-        → P (accepted_of asked (normal_p law d a) path.Law left law)
+        → P (accepted_of asked (normal_p law d a) (path_number path.Law) left law)
     pub exact : (s : Numbers) (q : Estimate) → due ≡ true → back ≡ false → spectrum_of x inverse n k ≡ Ok s → (imhof_of kept d).answer ≡ Ok q
-        → P (accepted_of asked (exact_p q.probability a) path.Imhof (worked_out s q) no_law)
+        → P (accepted_of asked (exact_p q.probability a) (path_number path.Imhof) (worked_out s q) no_law)
 
   -- the eigenvalues' mark is whether a coupling was left
   stuck-is : (s : Numbers) → spectrum_of x inverse n k ≡ Ok s → s.stuck ≡ left?
@@ -152,7 +152,7 @@ module _ (e x : List Float) (k : ℕ) (a : Alternative) (choice : Choice) (matri
     normal-shown left f w = go (ltb n 5) (law_answer (law_from x n k inverse)) refl
       where
         go : (b : Bool) (l : Result NormalLaw LawError) → law_answer (law_from x n k inverse) ≡ l
-            → P (finish l asked (cond b (Answered (accepted_of asked one path.FewForLaw left no_law)) (LawDue left)))
+            → P (finish l asked (cond b (Answered (accepted_of asked one (path_number path.FewForLaw) left no_law)) (LawDue left)))
         go true l h = shown.early left f w
         go false (Ok law) h = shown.normal left law f w h
         go false (Err why) h = refused (law_error why)

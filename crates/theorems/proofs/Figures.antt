@@ -132,7 +132,7 @@ module _ (x : List Float) (n k : ℕ) (inverse : Matrix) (d : Float) (a : Altern
   unfolding normal_path
   normal-hands left = go (ltb n 5) (law_answer (law_from x n k inverse))
     where
-      go : (b : Bool) (l : Result NormalLaw LawError) → Hands left (finish l (asking d a n) (cond b (Answered (accepted_of (asking d a n) one path.FewForLaw left no_law)) (LawDue left)))
+      go : (b : Bool) (l : Result NormalLaw LawError) → Hands left (finish l (asking d a n) (cond b (Answered (accepted_of (asking d a n) one (path_number path.FewForLaw) left no_law)) (LawDue left)))
       go true l q = (refl, refl)
       go false (Ok law) q = (refl, refl)
       go false (Err why) q = absurd (true≢false (sym q ∙ reason-refuses (law_error why)))
@@ -245,7 +245,7 @@ module _ (s : Sheet) where
 
   -- which calls these are
   abbrev Told : Outcome → Type 0
-  Told o = (path_number o.path ≡ 2) ⊎ (o.fallback ≡ true)
+  Told o = (o.path ≡ 2) ⊎ (o.fallback ≡ true)
 
   told_of : AcceptedExact s → Told (outcome_of s)
   told_of h = holds (λ o. passes o.refusal ≡ true → Told o) (record {

@@ -10,7 +10,6 @@ use Rattle.eigen.specs.Spectrum.{spectrum_of, kept_numbers}
 use Rattle.eigen.specs.declared.Numbers.{Numbers}
 use Rattle.eigen.specs.declared.SpectrumError.{SpectrumError}
 use Rattle.outcome.specs.Refusals.{passes}
-use Rattle.outcome.specs.Result.{path_number}
 use Rattle.outcome.specs.declared.Outcome.{Outcome}
 use Rattle.theorems.specs.Document.{left_coupled, kept_of, exact_due, coupling_was_left, integral_ended}
 use Rattle.theorems.specs.Sheets.{Sheet, outcome_of}
@@ -71,8 +70,8 @@ pub record OneLayout (s s' : Sheet) : Type 0 where
 abbrev pub ExactTold : Type 0
 ExactTold =
     (s : Sheet)
-    → (AcceptedExact s → (path_number (outcome_of s).path ≡ 2) ⊎ ((outcome_of s).fallback ≡ true))
-    × ((path_number (outcome_of s).path ≡ 2) ⊎ ((outcome_of s).fallback ≡ true) → AcceptedExact s)
+    → (AcceptedExact s → ((outcome_of s).path ≡ 2) ⊎ ((outcome_of s).fallback ≡ true))
+    × (((outcome_of s).path ≡ 2) ⊎ ((outcome_of s).fallback ≡ true) → AcceptedExact s)
 
 -- THE FIGURES of a call are those of its layout, and settled is their sweep half and that the integral ended, where one was needed
 abbrev pub FiguresShown : Type 0
@@ -113,5 +112,5 @@ SameResult =
 -- both in particular where path 2 answered
 abbrev pub SameOnPathTwo : Type 0
 SameOnPathTwo =
-    (s s' : Sheet) → OneLayout s s' → path_number (outcome_of s).path ≡ 2 → path_number (outcome_of s').path ≡ 2
+    (s s' : Sheet) → OneLayout s s' → (outcome_of s).path ≡ 2 → (outcome_of s').path ≡ 2
     → (passed_on s ≡ passed_on s') × (to_bits binary64 (outcome_of s).statistic ≡ to_bits binary64 (outcome_of s').statistic → outcome_of s ≡ outcome_of s')

@@ -4,7 +4,6 @@ use Rattle.std.specs.Float.{nan, inf}
 use Rattle.floats.specs.Words.{float, plus_zero, one}
 use Rattle.outcome.specs.declared.Alternative.{Alternative}
 use Rattle.outcome.specs.declared.Alternative.TheVariants.{Greater}
-use Rattle.outcome.specs.Result.{path_number}
 use Rattle.dwtest.specs.Test.{test_of}
 use Rattle.outcome.specs.declared.Outcome.{Outcome}
 use Rattle.outcome.specs.declared.Choice.{Choice}
@@ -38,7 +37,7 @@ abbrev pub answered : Float → Float → ℕ → Answer
 answered d p path = record { number = 0; place = 0; statistic = d; p = p; path = path }
 
 abbrev pub told : Outcome → Answer
-told o = record { number = o.refusal.number; place = o.refusal.place; statistic = o.statistic; p = o.p; path = path_number o.path }
+told o = record { number = o.refusal.number; place = o.refusal.place; statistic = o.statistic; p = o.p; path = o.path }
 
 -- the test's outcome for a sheet, and what is told of it
 abbrev pub outcome_of : Sheet → Outcome

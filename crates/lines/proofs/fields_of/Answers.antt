@@ -10,4 +10,4 @@ mark-of true = refl
 mark-of false = refl
 
 pub returns : goal.returns
-returns c = rw (c.bits_of.ensures, c.bits_of-2.ensures, c.from.ensures, mark-of c.args.o.fallback, mark-of c.args.o.settled)
+returns c = rw (c.bits_of.ensures, c.bits_of-2.ensures, mark-of c.args.o.fallback, mark-of c.args.o.settled)

@@ -1,6 +1,6 @@
-use Rattle.std.proofs.Common.{◌∙◌}
-use Rattle.floats.proofs.TableLaws.{take-table}
+use Rattle.std.proofs.Common.{rules}
+use Rattle.floats.proofs.TableLaws.{is-table}
 use Rattle.rows.proofs.copy.Goals as goal
 
 pub returns : goal.returns
-returns c = c.copy_from_slice.ensures.after ∙ take-table c.args.xs.now _ c.requires
+returns c = is-table _ _ _ c.update.ensures.kept (λ j h. search (rules, c.update.ensures.each j h))

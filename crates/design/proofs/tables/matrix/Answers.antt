@@ -1,13 +1,17 @@
-use Rattle.std.proofs.Common.{rules, ℕ, ◌≡◌, ◌<◌, ◌≤◌, Float, List, []}
-use Rattle.floats.specs.Limits.{max_columns}
-use Rattle.design.specs.Matrix.{row, zero_row, matrix}
-use Rattle.design.proofs.MadeLaws.{each-made, front-made}
+use Rattle.std.proofs.Common.{◌≡◌, arith}
+use Rattle.floats.proofs.RowLaws.{filled_none, filled_more}
+use Rattle.design.specs.Matrix.{row, zero_row, zero_matrix, matrix}
+use Rattle.design.proofs.MadeLaws.{front-filled}
 use Rattle.design.proofs.tables.matrix.Goals as goal
+
+pub loop-i-init : goal.loop-i-init
+loop-i-init g c = (omega arith, λ f h. filled_none (λ i. row c.args.k (f i)) zero_matrix)
+
+pub loop-i-preserved : goal.loop-i-preserved
+loop-i-preserved g c =
+    let w = c.loop-i in
+    (omega arith, λ f h. rw (w.invariant.1 f h, c.row.ensures (f w.i-counter) (λ j x l p. h w.i-counter j x c.loop-i-test.true l p)) (filled_more (λ i. row c.args.k (f i)) zero_matrix w.i-counter zero_row (omega arith)))
 
 pub returns : goal.returns
 unfolding matrix
-returns g c =
-    let k = c.args.k in
-    let P : ℕ → List Float → Type 0 = λ i r. (i < k → (f : ℕ → Float) → ((j : ℕ) (x : Float) → j < k → goal.F-post g c.args.entry i j x → x ≡ f j) → r ≡ row k f) × (k ≤ i → r ≡ zero_row) in
-    let made = each-made _ P _ (λ i y q s. search rules) c.from_fn.result [] max_columns c.from_fn.ensures.items in
-    λ f h. front-made max_columns k (λ i. row k (f i)) zero_row [] c.from_fn.result c.from_fn.ensures.items.long (λ i b. (λ l. (made i b).0 l (f i) (λ j x m p. h i j x l m p), (made i b).1))
+returns g c = λ f h. let e : c.loop-i.i-counter ≡ c.args.k = omega arith in rw (c.loop-i.invariant.1 f h, e) (front-filled (λ i. row c.args.k (f i)) zero_row c.args.k c.requires.0)

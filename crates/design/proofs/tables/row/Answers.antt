@@ -1,14 +1,18 @@
-use Rattle.std.proofs.Common.{rules, ℕ, ◌≡◌, ◌<◌, ◌≤◌, Float}
-use Rattle.std.specs.Float.{nan}
-use Rattle.floats.specs.Limits.{max_columns}
+use Rattle.std.proofs.Common.{◌≡◌, arith}
 use Rattle.floats.specs.Words.{plus_zero}
-use Rattle.design.specs.Matrix.{row}
-use Rattle.design.proofs.MadeLaws.{each-made, front-made}
+use Rattle.floats.proofs.RowLaws.{filled_none, filled_more}
+use Rattle.design.specs.Matrix.{zero_row, row}
+use Rattle.design.proofs.MadeLaws.{front-filled}
 use Rattle.design.proofs.tables.row.Goals as goal
+
+pub loop-j-init : goal.loop-j-init
+loop-j-init g c = (omega arith, λ f h. filled_none f zero_row)
+
+pub loop-j-preserved : goal.loop-j-preserved
+loop-j-preserved g c =
+    let w = c.loop-j in
+    (omega arith, λ f h. rw (w.invariant.1 f h, h w.j c.number.result c.loop-j-test.true c.number.ensures) (filled_more f zero_row w.j plus_zero (omega arith)))
 
 pub returns : goal.returns
 unfolding row
-returns g c =
-    let P : ℕ → Float → Type 0 = λ j x. (j < c.args.k → goal.F-post g c.args.number j x) × (c.args.k ≤ j → x ≡ plus_zero) in
-    let made = each-made _ P _ (λ i y q s. search rules) c.from_fn.result nan max_columns c.from_fn.ensures.items in
-    λ f h. front-made max_columns c.args.k f plus_zero nan c.from_fn.result c.from_fn.ensures.items.long (λ j b. (λ l. h j _ l ((made j b).0 l), (made j b).1))
+returns g c = λ f h. let e : c.loop-j.j ≡ c.args.k = omega arith in rw (c.loop-j.invariant.1 f h, e) (front-filled f plus_zero c.args.k c.requires.0)
