@@ -1,12 +1,10 @@
 -- A room that is not used, and one that was worked in and then cleared. Assumes nothing.
-use mathlib.Core.Path.{◌≡◌, refl, ap, ◌∙◌}
+use mathlib.Core.Path.{◌≡◌, ◌∙◌}
 use mathlib.Core.Bool.{Bool, true, false}
-use Prim.Native.Nat.{ℕ, zero, suc, ◌+◌, ◌<◌}
-use native.Mathlib.Numerals.{add-one}
-use mathlib.Core.List.{List, ◌∷◌, ◌++◌}
-use lib.ListN.{length, drop, set, get_or, replicate, length-replicate}
-use lib.Seq.{drop-cons, set_at}
-use lib.Ieee.{Float, nan}
+use Prim.Native.Nat.{ℕ}
+use mathlib.Core.List.{List, ◌++◌}
+use lib.ListN.{drop, replicate}
+use lib.Ieee.{Float}
 use Rattle.floats.specs.Words.{plus_zero}
 use Rattle.outcome.specs.Rooms.{cleared_of}
 

@@ -1,15 +1,13 @@
 -- What vouches for a result: a refusal needs nothing, and every answer reports the statistic that was asked of. So where that is sure, each result is vouched for. Assumes nothing.
 use mathlib.Core.Path.{◌≡◌, refl, sym, subst}
-use mathlib.Core.Bool.{Bool, true, false, cond, true≢false}
+use mathlib.Core.Bool.{Bool, true, false, cond}
 use Prim.Native.Nat.{ℕ}
 use mathlib.Core.List.{List}
 use lib.Dec.{ltb}
 use lib.Ieee.{Float}
 use Rattle.floats.specs.Words.{plus_zero, one}
-use Rattle.autocorrelation.specs.Statistic.{value}
-use Rattle.autocorrelation.specs.Bound.{Sure, Told}
+use Rattle.autocorrelation.specs.Bound.{Sure}
 use Rattle.std.specs.Prelude.{Result, Ok, Err}
-use Rattle.autocorrelation.specs.declared.StatisticError.{StatisticError}
 use Rattle.design.specs.Law.{too_few_for_law}
 use Rattle.design.specs.declared.LawError.{LawError}
 use Rattle.elementary.specs.declared.NormalLaw.{NormalLaw}
@@ -19,7 +17,7 @@ use Rattle.imhof.specs.Imhof.{imhof_of}
 use Rattle.imhof.specs.declared.Estimate.{Estimate}
 use Rattle.imhof.specs.declared.ExactError.{ExactError}
 use Rattle.imhof.specs.declared.ExactError.TheVariants.{NoWeight, NotFinite}
-use Rattle.outcome.specs.Refusals.{passes, first_of, refusal_of, statistic_refusal, spectrum_error, law_error, rooms_of}
+use Rattle.outcome.specs.Refusals.{passes, first_of, refusal_of, spectrum_error, law_error, rooms_of}
 use Rattle.outcome.specs.Result.{path_number, least_rows, wants_exact, no_law, fallen_back, refused_of, accepted_of}
 use Rattle.outcome.specs.declared.Asked.{Asked}
 use Rattle.outcome.specs.declared.Choice.{Choice}
@@ -27,7 +25,6 @@ use Rattle.outcome.specs.declared.Leaving.{Leaving}
 use Rattle.outcome.specs.declared.Path.TheVariants as path
 use Rattle.outcome.specs.declared.Refusal.{Refusal}
 use Rattle.outcome.specs.declared.refusals.TestError.{TestError}
-use Rattle.outcome.specs.declared.refusals.TestError.TheVariants as error
 use Rattle.outcome.proofs.PassLaws.{reason-refuses}
 use Rattle.dwtest.specs.Layout.{Layout, design_checks, layout_of}
 use Rattle.dwtest.specs.Verdict.{to_law, by_imhof, by_spectrum, by_law, finish}

@@ -70,8 +70,6 @@ fn clear(room: &mut [f64], m: usize)
 
 // The exact way: the eigenvalues, which the columns decide, then what the statistic makes of them. Both rooms are cleared.
 // kept as two rooms: of a struct that holds both as &mut the clauses read rooms.exit.1.0.now where they say parts.new
-// A function of its own in what is compiled too, so that only exact calls have its runs on their stack.
-#[inline(never)]
 fn exact(
     case: Case,
     inverse: Matrix,

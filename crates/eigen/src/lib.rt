@@ -61,7 +61,9 @@ fn delivered(
     Ok(Numbers { count, work, stuck })
 }
 
-// The kept eigenvalues into the front of `kept`, how many, and the sweeps. The first n (n + 1) numbers of the room are worked in.
+// The kept eigenvalues into the front of `kept`, how many, and the sweeps. The first n (n + 1) numbers of the room are worked in. A function of its
+// own in what is compiled too, so that only exact calls have its runs on their stack.
+#[inline(never)]
 pub fn ma_eigenvalues(
     sheet: Sheet,
     inverse: Matrix,

@@ -31,8 +31,11 @@ fn filler(t: usize) -> f64 {
 pub fn fill(room: &mut [f64])
     ensures { length room.new ≡ length room.old }
 {
-    for (t, x) in room.iter_mut().enumerate() {
-        *x = filler(t);
+    // by a sum, which is quicker than the number of each place
+    let mut next = 0.0f64;
+    for x in room.iter_mut() {
+        next += 1.0;
+        *x = next;
     }
 }
 

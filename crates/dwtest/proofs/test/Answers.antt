@@ -1,6 +1,5 @@
 use mathlib.Core.Path.{refl, ap, sym, ◌∙◌, subst}
 use lib.ListN.{length}
-use Rattle.std.specs.Prelude.{Ok, Err}
 use Rattle.columns.proofs.SheetLaws.{sound-columns}
 use Rattle.outcome.specs.Refusals.{passes, refusal_in, rows_refusal}
 use Rattle.outcome.specs.Rooms.{room_of}
